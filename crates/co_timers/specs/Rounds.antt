@@ -192,11 +192,6 @@ module _ {H : Type 0} (needs : Needs) (runs : H → Fire → Option ℕ → Opti
       pub takes : IsTaking direct p.passes cpu act due_is.i due_is.n time reply pop pick taken
       pub serves : IsLaneService due_is time reply before (record { passes = taken; act = p.act }) one after q
 
-    -- the same, or nothing was left, and no function has run
-    abbrev pub IsNextRound : (scans : ℕ) → H → HandleView → Option Round → H → HandleView → Type 0
-    IsNextRound scans before p None after q = (after ≡ before) × IsLast direct scans cpu act p q
-    IsNextRound scans before p (Some one) after q = IsRound before p one after q
-
     -- rounds, one after the other, each with the handler as the one before has left it
     pub data AreRounds (before : H) (p : HandleView) : Served → H → HandleView → Type 0 where
       start : AreRounds before p none_served before p

@@ -4,7 +4,6 @@ ghost use Rattle.std.specs.Option.{option_copied};
 ghost use Rattle.std.specs.declared.option.Option.TheVariants.{Some};
 ghost use Rattle.co_object.specs.declared.op.CallOp.TheVariants.{Plain};
 ghost use Rattle.co_object.specs.declared.op.PlainOp.TheVariants.{AsyncDrain, Reset as ResetOp, Schedule, Stop};
-ghost use Rattle.co_desk.specs.Views.{AreOf};
 ghost use Rattle.co_timers.specs.Handles.{IsHandle};
 ghost use Rattle.co_timers.specs.Answers.{IsSaid, async_word, reset_word, stop_word};
 ghost use Rattle.co_timers.specs.Drains.{IsDrained, IsDrainedWithin};
@@ -26,7 +25,7 @@ use std::sync::Wait;
 #[derive(Drop)]
 pub struct Client<'a, N: Name> {
     timers: &'a Timers<N>,
-    passes: Passes,
+    pub(crate) passes: Passes,
     act: u64,
 }
 
@@ -109,14 +108,6 @@ impl<'a, N: Name> Client<'a, N> {
             passes,
             act: 0,
         }
-    }
-
-    /// What it has seen.
-    pub(crate) fn into_passes(self) -> Passes
-        ensures passes { result ≡ self.entry.passes }
-        ensures of { AreOf N.name self.entry.passes.params result }
-    {
-        self.passes
     }
 
     /// A call on callout `i`, with the callout's reply. `hold` is the client lock that the caller holds, if it holds

@@ -1,18 +1,14 @@
 //! A CPU's handle.
-ghost use Rattle.std.specs.Prelude.{◌≡◌, ◌<◌, false, true};
-ghost use Rattle.co_desk.specs.Outcomes.{IsScan};
-ghost use Rattle.co_desk.specs.Views.{AreOf, PassesView};
-ghost use Rattle.co_timers.specs.Handles.{next_act};
-ghost use Rattle.co_timers.specs.Ports.{handle_of};
-ghost use Rattle.co_timers.specs.Rounds.{IsAtEase, AreNeedsOf, IsLaneServed};
+ghost use Rattle.std.specs.Prelude.{◌≡◌};
+ghost use Rattle.co_timers.specs.Rounds.{AreNeedsOf};
 
 use crate::Timers;
 use crate::lane::Lane;
 use crate::rounds::serve_all;
-use crate::turned::{Served, Turned};
+use crate::turned::Turned;
 use co_hand::Handler;
 use co_sbt::Sbt;
-use co_service::{Name, Passes, Scanned};
+use co_service::{Name, Passes};
 use std::marker::Model;
 use std::sync::Wait;
 
@@ -36,7 +32,7 @@ pub struct Cpu<'a, N: Name> {
     timers: &'a Timers<N>,
     number: u32,
     /// None while it turns.
-    lanes: Option<Lanes>,
+    pub(crate) lanes: Option<Lanes>,
 }
 
 impl<'a, N: Name> Model for Cpu<'a, N> {
@@ -68,13 +64,20 @@ impl Lanes {
         ensures needs { H.needs handler.new ≡ H.needs handler.old }
     {
         let Lanes {
-            direct,
-            others,
+            mut direct,
+            mut others,
             turns,
         } = self;
         let turns = turns.saturating_add(1);
-        let (direct, scanned, first) = turn_direct(rt, timers, cpu, direct, now, handler);
-        let (others, second) = turn_others(rt, timers, cpu, turns, others, handler);
+        // The act of the interrupt: its scan, and the services of all direct callouts that have come due.
+        let act = direct.act;
+        direct.act = act.saturating_add(1);
+        let scanned = timers.service.scan(rt, &mut direct.passes, cpu, act, now);
+        let (direct, first) = serve_all(rt, timers, cpu, act, 0, true, direct, handler);
+        // The act of the CPU: the services of all others, once its journal has a Scan for each turn.
+        let act = others.act;
+        others.act = act.saturating_add(1);
+        let (others, second) = serve_all(rt, timers, cpu, act, turns, false, others, handler);
         let turned = Turned {
             scanned: scanned.count,
             direct: first,
@@ -87,50 +90,6 @@ impl Lanes {
         };
         (after, turned)
     }
-}
-
-/// An act of a CPU's interrupt: its scan, and the services of all direct callouts that have come due.
-fn turn_direct<'a, N: Name, R: Wait + Sync, H: Handler>(
-    rt: &'a R,
-    timers: &'a Timers<N>,
-    cpu: u32,
-    lane: Lane,
-    now: Sbt,
-    handler: &mut H,
-) -> (Lane, Scanned, Served)
-    requires at_ease { IsAtEase N.name timers.now.params true cpu lane.passes }
-    requires needs { AreNeedsOf (H.needs handler.old) timers.now.params }
-    ensures scan { (scanned : PassesView) × IsScan lane.passes cpu lane.act now result.1 scanned × IsLaneServed (H.needs handler.old) H.runs true cpu lane.act 0 handler.old (record { passes = scanned; act = next_act lane.act }) result.2 handler.new (handle_of result.0) }
-    ensures at_ease { IsAtEase N.name timers.now.params true cpu result.0.passes }
-    ensures needs { H.needs handler.new ≡ H.needs handler.old }
-{
-    let mut here = lane;
-    let act = here.act;
-    here.act = act.saturating_add(1);
-    let scanned = timers.scan_cpu(rt, &mut here.passes, cpu, act, now);
-    let (after, served) = serve_all(rt, timers, cpu, act, 0, true, here, handler);
-    (after, scanned, served)
-}
-
-/// An act of a CPU: the services of all other callouts that have come due, once its journal has so many Scans.
-fn turn_others<'a, N: Name, R: Wait + Sync, H: Handler>(
-    rt: &'a R,
-    timers: &'a Timers<N>,
-    cpu: u32,
-    scans: u64,
-    lane: Lane,
-    handler: &mut H,
-) -> (Lane, Served)
-    requires at_ease { IsAtEase N.name timers.now.params false cpu lane.passes }
-    requires needs { AreNeedsOf (H.needs handler.old) timers.now.params }
-    ensures served { IsLaneServed (H.needs handler.old) H.runs false cpu lane.act scans handler.old (record { passes = lane.passes; act = next_act lane.act }) result.1 handler.new (handle_of result.0) }
-    ensures at_ease { IsAtEase N.name timers.now.params false cpu result.0.passes }
-    ensures needs { H.needs handler.new ≡ H.needs handler.old }
-{
-    let mut here = lane;
-    let act = here.act;
-    here.act = act.saturating_add(1);
-    serve_all(rt, timers, cpu, act, scans, false, here, handler)
 }
 
 impl<'a, N: Name> Cpu<'a, N> {
@@ -161,22 +120,6 @@ impl<'a, N: Name> Cpu<'a, N> {
             timers,
             number,
             lanes: Some(lanes),
-        }
-    }
-
-    /// What its interrupt and its own actor have seen.
-    pub(crate) fn into_passes(self) -> (Passes, Passes)
-        ensures direct { result.0 ≡ self.entry.direct.passes }
-        ensures others { result.1 ≡ self.entry.others.passes }
-        ensures of { AreOf N.name self.entry.others.passes.params result.0 }
-        ensures of_others { AreOf N.name self.entry.others.passes.params result.1 }
-    {
-        match self.lanes {
-            Some(lanes) => {
-                let Lanes { direct, others, .. } = lanes;
-                (direct.passes, others.passes)
-            }
-            None => unreachable!(),
         }
     }
 

@@ -85,7 +85,7 @@ impl<N: Name> Posts<N> {
         requires { client.passes.params ≡ self.old.params }
         ensures { self.new ≡ back_with self.old client.entry.passes }
     {
-        self.bring(client.into_passes());
+        self.bring(client.passes);
     }
 
     /// CPU `k` leaves with its passes, for whoever serves it through the service. `None` where there is no such CPU, or it has left
@@ -164,9 +164,11 @@ impl<N: Name> Posts<N> {
         requires { cpu.others.passes.params ≡ self.old.params }
         ensures { self.new ≡ back_with (back_with self.old cpu.entry.direct.passes) cpu.entry.others.passes }
     {
-        let (direct, others) = cpu.into_passes();
-        self.bring(direct);
-        self.bring(others);
+        let Some(lanes) = cpu.lanes else {
+            unreachable!()
+        };
+        self.bring(lanes.direct.passes);
+        self.bring(lanes.others.passes);
     }
 
     /// Whether all actors are back.

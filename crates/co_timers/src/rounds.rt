@@ -2,7 +2,7 @@
 ghost use Rattle.std.specs.Prelude.{◌≡◌, ◌<◌, is_some, true, unwrap_or};
 ghost use Rattle.co_desk.specs.Serving.{stage_picked};
 ghost use Rattle.co_timers.specs.Ports.{handle_of};
-ghost use Rattle.co_timers.specs.Rounds.{IsAbout, IsAtEase, AreNeedsOf, IsNextRound, IsLaneServed, IsLaneService, MayBeServed, counted_where, fire_after, fire_of, served_after};
+ghost use Rattle.co_timers.specs.Rounds.{IsAbout, IsAtEase, AreNeedsOf, IsLaneServed, IsLaneService, MayBeServed, counted_where, fire_after, fire_of, served_after};
 
 use crate::Timers;
 use crate::lane::Lane;
@@ -127,41 +127,6 @@ fn serve<'a, N: Name, R: Wait + Sync, H: Handler>(
     (over, one)
 }
 
-/// The first callout that has come due is taken and served, once the CPU's journal has so many Scans. `None` where none has.
-fn round<'a, N: Name, R: Wait + Sync, H: Handler>(
-    rt: &'a R,
-    timers: &'a Timers<N>,
-    cpu: u32,
-    act: u64,
-    scans: u64,
-    direct: bool,
-    lane: Lane,
-    handler: &mut H,
-) -> (Lane, Option<Round>)
-    requires at_ease { IsAtEase N.name timers.now.params direct cpu lane.passes }
-    requires needs { AreNeedsOf (H.needs handler.old) timers.now.params }
-    requires none { direct ≡ true → scans ≡ 0 }
-    ensures next { IsNextRound (H.needs handler.old) H.runs direct cpu act scans handler.old (handle_of lane) result.1 handler.new (handle_of result.0) }
-    ensures at_ease { IsAtEase N.name timers.now.params direct cpu result.0.passes }
-    ensures needs { H.needs handler.new ≡ H.needs handler.old }
-{
-    let mut here = lane;
-    match timers.take(rt, &mut here.passes, cpu, act, scans, direct) {
-        Taken::Empty { .. } => (here, None),
-        Taken::Took {
-            i,
-            n,
-            at,
-            reply,
-            ..
-        } => {
-            let taken = Picked { i, n, at, reply };
-            let (next, one) = serve(rt, timers, cpu, act, direct, here, &taken, handler);
-            (next, Some(one))
-        }
-    }
-}
-
 /// All that has come due for the CPU, or for its interrupt where `direct`, is served, until nothing is left. It waits until the CPU's journal has so
 /// many Scans.
 pub(crate) fn serve_all<'a, N: Name, R: Wait + Sync, H: Handler>(
@@ -188,13 +153,20 @@ pub(crate) fn serve_all<'a, N: Name, R: Wait + Sync, H: Handler>(
         drained: 0,
     };
     for _ in rt.forever() {
-        let (next, one) = round(rt, timers, cpu, act, scans, direct, here, handler);
-        match one {
-            Some(one) => {
+        match timers.take(rt, &mut here.passes, cpu, act, scans, direct) {
+            Taken::Empty { .. } => return (here, served),
+            Taken::Took {
+                i,
+                n,
+                at,
+                reply,
+                ..
+            } => {
+                let taken = Picked { i, n, at, reply };
+                let (next, one) = serve(rt, timers, cpu, act, direct, here, &taken, handler);
                 here = next;
                 served = served_after(served, one);
             }
-            None => return (next, served),
         }
     }
     unreachable!()

@@ -6,7 +6,7 @@ ghost use Rattle.co_lock.specs.Service.{hold_of};
 ghost use Rattle.co_desk.specs.Params.{spec_at};
 ghost use Rattle.co_timers.specs.Handles.{IsHandle};
 ghost use Rattle.co_timers.specs.Ports.{handle_of};
-ghost use Rattle.co_timers.specs.Rounds.{AreNeedsOf, DrainsIf, IsRun, RunsIf, hold_in, unless_released};
+ghost use Rattle.co_timers.specs.Rounds.{AreNeedsOf, DrainsIf, RunsIf, hold_in, unless_released};
 
 use crate::Timers;
 use crate::lane::Lane;
@@ -40,29 +40,6 @@ fn hand_over<P: Port, H: Handler>(
     }
 }
 
-/// The actor after the acts of the function of the service, which begins under this hold of the callout's lock, where it has one.
-fn run<'a, N: Name, R: Wait, H: Handler>(
-    rt: &'a R,
-    timers: &'a Timers<N>,
-    lane: Lane,
-    fire: &Fire,
-    hold: Option<Hold<'_>>,
-    handler: &mut H,
-) -> Lane
-    requires handle { IsHandle N.name timers.now.params lane.passes }
-    requires needs { AreNeedsOf (H.needs handler.old) timers.now.params }
-    requires callout { fire.now.i < length timers.now.params.specs }
-    requires cpu { fire.now.cpu < timers.now.params.cpus }
-    requires hold { hold ≡ hold_of (spec_at timers.now.params fire.now.i).lock }
-    ensures run { IsRun (H.needs handler.old) H.runs handler.old fire.now None (hold_in (spec_at timers.now.params fire.now.i)) fire.now.func (handle_of lane) handler.new (handle_of result) }
-    ensures needs { H.needs handler.new ≡ H.needs handler.old }
-{
-    let unlocked = timers.spec(fire.i).returns_unlocked;
-    let mut port = CpuPort::new(rt, timers, lane, &*handler, fire.func);
-    hand_over(handler, fire, hold, unlocked, &mut port);
-    port.into_lane()
-}
-
 /// The actor after the acts of callout `i`'s function, where one is called, which begins under this hold of the callout's lock.
 pub(crate) fn run_if<'a, N: Name, R: Wait, H: Handler>(
     rt: &'a R,
@@ -82,7 +59,12 @@ pub(crate) fn run_if<'a, N: Name, R: Wait, H: Handler>(
     ensures needs { H.needs handler.new ≡ H.needs handler.old }
 {
     match fire {
-        Some(fire) => run(rt, timers, lane, fire, hold, handler),
+        Some(fire) => {
+            let unlocked = timers.spec(fire.i).returns_unlocked;
+            let mut port = CpuPort::new(rt, timers, lane, &*handler, fire.func);
+            hand_over(handler, fire, hold, unlocked, &mut port);
+            port.into_lane()
+        }
         None => lane,
     }
 }

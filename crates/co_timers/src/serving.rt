@@ -4,18 +4,16 @@ ghost use Rattle.std.specs.declared.option.Option.TheVariants.{Some};
 ghost use Rattle.co_lock.specs.Service.{hold_of};
 ghost use Rattle.co_object.specs.Serve.{has_lock};
 ghost use Rattle.co_desk.specs.Call.{notes_in};
-ghost use Rattle.co_desk.specs.Outcomes.{IsScan};
 ghost use Rattle.co_desk.specs.Params.{spec_at};
-ghost use Rattle.co_desk.specs.Services.{FollowsScans, IsBegun, IsEnded, IsTaken};
-ghost use Rattle.co_desk.specs.Serving.{Runs, Waits, stage_picked};
+ghost use Rattle.co_desk.specs.Services.{FollowsScans, IsEnded, IsTaken};
+ghost use Rattle.co_desk.specs.Serving.{Runs, stage_picked};
 ghost use Rattle.co_desk.specs.Views.{journal_seen};
 ghost use Rattle.co_timers.specs.Rounds.{HasTaken, IsAbout, IsAtEase, IsBegin, MayBeServed, called_by, drain_of, waits_for_lock};
 
 use crate::Timers;
 use co_lock::{Hold, hold_of};
 use co_object::Reply;
-use co_sbt::Sbt;
-use co_service::{Made, Name, Passes, Scanned, Taken};
+use co_service::{Made, Name, Passes, Taken};
 use std::sync::Wait;
 
 /// The function waits for the callout's lock.
@@ -49,22 +47,6 @@ pub(crate) fn drain_of(reply: &Reply) -> Option<u32>
 }
 
 impl<N: Name> Timers<N> {
-    /// What is due at this CPU comes due. The passes are those of its interrupt.
-    pub(crate) fn scan_cpu<R: Wait>(
-        &self,
-        rt: &R,
-        passes: &mut Passes,
-        cpu: u32,
-        act: u64,
-        now: Sbt,
-    ) -> Scanned
-        requires { IsAtEase N.name self.now.params true cpu passes.old }
-        ensures scanned { IsScan passes.old cpu act now result passes.new }
-        ensures at_ease { IsAtEase N.name self.now.params true cpu passes.new }
-    {
-        self.service.scan(rt, passes, cpu, act, now)
-    }
-
     /// The first callout that has come due goes into the service of the CPU, or of its interrupt where `direct`. It is a callout of the service, and
     /// waits for its lock only where it has one.
     pub(crate) fn take<R: Wait>(
@@ -103,27 +85,6 @@ impl<N: Name> Timers<N> {
         }
     }
 
-    /// Takes the lock of the callout that waits for it in the CPU's service, and begins.
-    fn begin_locked<R: Wait + Sync>(
-        &self,
-        rt: &R,
-        passes: &mut Passes,
-        cpu: u32,
-        act: u64,
-        i: u32,
-        n: u64,
-    ) -> (Reply, Hold<'_>)
-        requires about { IsAbout N.name self.now.params false cpu (record { i = i; n = n }) (Waits n) passes.old }
-        requires lock { has_lock (spec_at self.now.params i).lock ≡ true }
-        ensures hold { hold_of (spec_at self.now.params i).lock ≡ Some result.1 }
-        ensures begins { (out : Made) × (out.reply ≡ result.0) × IsBegun passes.old cpu act (record { i = i; n = n }) out passes.new }
-        ensures about { IsAbout N.name self.now.params false cpu (record { i = i; n = n }) (Runs n) passes.new }
-    {
-        let hold = self.lock_of(rt, i);
-        let made = self.service.begin(rt, passes, cpu, act, &hold);
-        (made.reply, hold)
-    }
-
     /// What the service of what was taken begins with: where it waits for the callout's lock, that is taken first.
     pub(crate) fn begin_lane<R: Wait + Sync>(
         &self,
@@ -145,8 +106,9 @@ impl<N: Name> Timers<N> {
         if !waits(&reply) {
             return (reply, None);
         }
-        let (said, hold) = self.begin_locked(rt, passes, cpu, act, i, n);
-        (said, Some(hold))
+        let hold = self.lock_of(rt, i);
+        let made = self.service.begin(rt, passes, cpu, act, &hold);
+        (made.reply, Some(hold))
     }
 
     /// The service is over: of the CPU, or of its interrupt where `direct`.

@@ -1,7 +1,7 @@
 //! What a CPU's turn did.
 
 /// What became of the service of one callout.
-#[derive(Clone, Copy, Debug, PartialEq, Eq)]
+#[derive(Clone, Copy)]
 pub struct Round {
     /// Its function was called; else it was skipped, since a stop had cancelled the arming while it waited for its lock.
     pub called: bool,

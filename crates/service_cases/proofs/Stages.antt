@@ -1,8 +1,8 @@
 -- The services that the tests play on, and their actors.
-use Rattle.std.proofs.Common.{◌≡◌, inl, inr, ℕ, zero, suc, ◌+◌, ◌-◌, ◌≤◌, ◌==◌, Bool, true, false, cond, List, [], ◌∷◌, ◌++◌, length, refl, sym, ap, ◌∙◌, subst, arith}
+use Rattle.std.proofs.Common.{◌≡◌, inl, inr, ℕ, zero, suc, ◌+◌, ◌-◌, ◌≤◌, ◌==◌, Bool, true, false, cond, List, [], ◌∷◌, length, refl, replicate, sym, ap, ◌∙◌, subst, arith}
 use Rattle.std.specs.Prelude.{◌⊎◌, slice_index_or}
 use Rattle.std.specs.List.{All}
-use Rattle.std.proofs.lemmas.List.Elements.{All-nil, All-cons, All-head, All-tail}
+use Rattle.std.proofs.lemmas.List.Elements.{All-nil, All-cons, All-head, All-replicate, All-tail}
 use Rattle.std.specs.declared.option.Option.TheVariants.{Some}
 use Rattle.co_object.specs.declared.spec.LockUse.TheVariants.{Free, Mtx}
 use Rattle.co_object.specs.declared.spec.Spec.{Spec}
@@ -13,18 +13,17 @@ use Rattle.co_object.specs.Queue.{Due}
 use Rattle.co_desk.specs.Services.{IsServing}
 use Rattle.co_desk.specs.Serving.{ServiceStage}
 use Rattle.co_desk.specs.Views.{PassesView}
-use Rattle.co_desk.proofs.Items.{all_more}
 
 -- ---- the callouts
 
-abbrev free_of : Bool → Spec
+abbrev pub free_of : Bool → Spec
 free_of direct = record { lock = Free; returns_unlocked = false; direct = direct }
 
-pub more_specs : (version : ℕ) (specs : List Spec) (direct : Bool) (spec : Spec) → spec ≡ free_of direct → (version ≡ 1 → direct ≡ false) → All (IsFreeSpec version) specs → All (IsFreeSpec version) (specs ++ spec ∷ [])
-more_specs version specs direct spec is later all = all_more (IsFreeSpec version) specs spec all (subst (IsFreeSpec version) (sym is) (record {
+pub all_free : (version n : ℕ) (direct : Bool) → (version ≡ 1 → direct ≡ false) → All (IsFreeSpec version) (replicate n (free_of direct))
+all_free version n direct later = All-replicate (IsFreeSpec version) n (free_of direct) (record {
   lock = refl;
   allowed = record { unlocked = λ _. refl; free = inr refl; later = later };
-}))
+})
 
 free_at : (version : ℕ) (specs : List Spec) (i : ℕ) → All (IsFreeSpec version) specs → (slice_index_or specs i no_spec).lock ≡ Free
 free_at version [] i all = refl
@@ -72,18 +71,18 @@ locked = record { lock = Mtx 0; returns_unlocked = false; direct = false }
 abbrev locked_scene : List Spec → Params
 locked_scene specs = record { version = 1; clients = 1; cpus = 1; buckets = 16; specs = specs }
 
-pub locked_allowed : (specs : List Spec) → specs ≡ locked ∷ [] → AreParams (locked_scene specs)
-locked_allowed specs is = subst (λ (l : List Spec). AreParams (locked_scene l)) (sym is) (record {
+pub locked_allowed : AreParams (locked_scene (locked ∷ []))
+locked_allowed = record {
   version = inl refl;
   clients = omega arith;
   cpus = (omega arith, omega arith);
   buckets = (omega arith, omega arith, (4, refl));
   size = (omega arith, omega arith);
   specs = All-cons (IsSpec 1) locked [] (record { unlocked = λ _. refl; free = inl refl; later = λ _. refl }) (All-nil (IsSpec 1));
-})
+}
 
-pub locked_is : (specs : List Spec) (p : Params) → specs ≡ locked ∷ [] → p ≡ locked_scene specs → IsLocked p
-locked_is specs p is here = subst IsLocked (sym (here ∙ ap locked_scene is)) (record {
+pub locked_is : (p : Params) → p ≡ locked_scene (locked ∷ []) → IsLocked p
+locked_is p here = subst IsLocked (sym here) (record {
   version_is = refl;
   clients = refl;
   cpus_are = refl;

@@ -59,25 +59,6 @@ pub(super) fn keep_nothing<R: Abort>(rt: &R, log: &mut Vec<Note>, taken: Taken) 
     keep(rt, log, note);
 }
 
-/// A callout goes into the CPU's service, and its function is called.
-pub(super) fn start<N: Name, R: Wait + Abort>(
-    rt: &R,
-    service: &Service<N>,
-    log: &mut Vec<Note>,
-    passes: &mut Passes,
-    cpu: u32,
-)
-    requires cpu { cpu < service.now.cpus }
-    requires passes { AreOf N.name service.now passes.old }
-    requires free { IsFree false passes.old cpu }
-    ensures of { AreOf N.name service.now passes.new }
-    ensures actor { passes.new.actor ≡ passes.old.actor }
-    ensures serving { (d : Due) × IsServing false passes.new cpu d (Runs d.n) }
-{
-    let taken = service.next(rt, passes, cpu, 0, 1);
-    keep_begun(rt, log, taken);
-}
-
 /// The CPU finds nothing more to service.
 pub(super) fn rest<N: Name, R: Wait + Abort>(
     rt: &R,

@@ -3,7 +3,6 @@ ghost use Rattle.std.specs.Prelude.{◌≡◌, false};
 ghost use Rattle.co_object.specs.Actors.{cpu_actor};
 ghost use Rattle.co_object.specs.Journal.{scanner};
 ghost use Rattle.co_service.specs.Booted.{AreBooted};
-ghost use Rattle.co_service.specs.Closing.{AreAll};
 ghost use Rattle.co_service.specs.Kept.{KeepsFree};
 ghost use Rattle.co_desk.specs.Params.{actor_count, actors_of};
 ghost use Rattle.co_desk.specs.Views.{AreOf};
@@ -54,25 +53,6 @@ pub(super) fn leave_three<N: Name>(
     (client, first, second)
 }
 
-/// The passes of two actors, who are all.
-fn all_back<N: Name, R: Abort>(
-    rt: &R,
-    alloc: Global,
-    service: &Service<N>,
-    first: Passes,
-    second: Passes,
-) -> Seq<Passes>
-    requires count { actor_count service.now ≡ 2 }
-    requires first { AreOf N.name service.now first }
-    requires second { AreOf N.name service.now second }
-    ensures { AreAll N.name service.now result }
-{
-    let mut crew = Crew::new(alloc, service).expect(rt, "no memory");
-    crew.back(first);
-    crew.back(second);
-    crew.into_all()
-}
-
 /// The end of a service of two actors.
 pub(super) fn close_two<N: Name, R: Wait + Abort>(
     rt: &R,
@@ -85,6 +65,8 @@ pub(super) fn close_two<N: Name, R: Wait + Abort>(
     requires first { AreOf N.name service first }
     requires second { AreOf N.name service second }
 {
-    let all = all_back(rt, alloc, &service, first, second);
-    drop(service.close(rt, all));
+    let mut crew = Crew::new(alloc, &service).expect(rt, "no memory");
+    crew.back(first);
+    crew.back(second);
+    drop(service.close(rt, crew.into_all()));
 }

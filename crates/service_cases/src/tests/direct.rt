@@ -1,7 +1,4 @@
 //! A direct callout is serviced by its CPU's interrupt.
-ghost use Rattle.std.specs.Prelude.{◌<◌, true};
-ghost use Rattle.co_desk.specs.Services.{IsFree};
-ghost use Rattle.co_desk.specs.Views.{AreOf};
 ghost use Rattle.co_service.specs.Booted.{AreBooted};
 ghost use Rattle.service_cases.specs.Scenes.{IsScene};
 
@@ -14,27 +11,8 @@ use co_service::{Name, Passes, Service};
 use std::process::Abort;
 use std::sync::Wait;
 
-/// The interrupt services the one callout that has come due: its function is called and returns, and nothing more is there.
-fn serve<N: Name, R: Wait + Abort>(
-    rt: &R,
-    service: &Service<N>,
-    log: &mut Vec<Note>,
-    passes: &mut Passes,
-    cpu: u32,
-)
-    requires cpu { cpu < service.now.cpus }
-    requires passes { AreOf N.name service.now passes.old }
-    requires free { IsFree true passes.old cpu }
-{
-    let taken = service.next_direct(rt, passes, cpu, 0);
-    keep_begun(rt, log, taken);
-    let made = service.end_direct(rt, passes, cpu, 0);
-    keep_all(rt, log, made.notes);
-    let taken = service.next_direct(rt, passes, cpu, 0);
-    keep_nothing(rt, log, taken);
-}
-
-/// The client arms the callout, and the interrupt serves it. The CPU does nothing.
+/// The client arms the callout, and the interrupt serves it: its function is called and returns, and nothing more is there. The CPU does
+/// nothing.
 pub(super) fn play<N: Name, R: Wait + Abort>(
     rt: &R,
     service: &Service<N>,
@@ -51,7 +29,12 @@ pub(super) fn play<N: Name, R: Wait + Abort>(
     drop(all);
     arm(rt, service, log, &mut client, 0, 0, seconds(1), 0, None);
     tick(rt, service, log, &mut interrupt, 0, seconds(1));
-    serve(rt, service, log, &mut interrupt, 0);
+    let taken = service.next_direct(rt, &mut interrupt, 0, 0);
+    keep_begun(rt, log, taken);
+    let made = service.end_direct(rt, &mut interrupt, 0, 0);
+    keep_all(rt, log, made.notes);
+    let taken = service.next_direct(rt, &mut interrupt, 0, 0);
+    keep_nothing(rt, log, taken);
     drop(client);
     drop(interrupt);
 }

@@ -1,14 +1,9 @@
 //! A callout with a mutex is stopped while its service waits for the mutex.
 ghost use Rattle.std.specs.Prelude.{◌≡◌, ◌∷◌, [], ℕ, Bool, IfOk, false, true};
-ghost use Rattle.co_object.specs.Actors.{cpu_actor};
-ghost use Rattle.co_object.specs.Journal.{scanner};
 ghost use Rattle.co_object.specs.declared.op.CallOp.TheVariants.{Plain};
-ghost use Rattle.co_object.specs.declared.spec.LockUse.TheVariants.{Mtx};
 ghost use Rattle.co_service.specs.Booted.{AreBooted};
 ghost use Rattle.co_desk.specs.Call.{NamesCpu};
 ghost use Rattle.service_cases.specs.Scenes.{IsLocked};
-ghost use Rattle.co_service.specs.Kept.{KeepsFree};
-ghost use Rattle.co_desk.specs.Params.{actors_of};
 ghost use Rattle.co_desk.specs.Services.{HasNext, IsServing};
 ghost use Rattle.co_desk.specs.Serving.{Waits};
 ghost use Rattle.co_desk.specs.Views.{AreOf, PassesView};
@@ -25,32 +20,17 @@ use std::alloc::Global;
 use std::process::Abort;
 use std::sync::Wait;
 
-/// A callout with mutex 0.
-fn locked_spec() -> Spec
-    ensures { result ≡ record { lock = Mtx 0; returns_unlocked = false; direct = false } }
-{
-    Spec {
-        lock: LockUse::Mtx(0),
-        returns_unlocked: false,
-        direct: false,
-    }
-}
-
 /// A service of one client, one CPU and one callout with mutex 0.
 pub(super) fn boot_locked(alloc: Global) -> Result<(Fresh, Seq<Passes>), NoMemory>
     ensures scene { IfOk result (λ made. IsLocked made.0.params) }
     ensures passes { IfOk result (λ made. AreBooted made.0.name made.0.params made.1) }
 {
-    let mut specs = Seq::new(alloc);
-    specs.push(locked_spec())?;
-    Service::boot(alloc, 1, 1, 16, 1, specs.as_slice())
-}
-
-/// Mutex 0. There is memory for it.
-fn mutex<R: Abort>(rt: &R, alloc: Global) -> ClientLocks
-    ensures { result ≡ LockKind.Mtx ∷ [] }
-{
-    ClientLocks::new(alloc, &[LockKind::Mtx]).expect(rt, "no memory")
+    let spec = Spec {
+        lock: LockUse::Mtx(0),
+        returns_unlocked: false,
+        direct: false,
+    };
+    Service::boot(alloc, 1, 1, 16, 1, &[spec])
 }
 
 /// The client's call on the callout, while it holds the mutex.
@@ -94,40 +74,6 @@ fn keep_waiting<R: Abort>(rt: &R, log: &mut Vec<Note>, taken: Taken) -> u64
     n
 }
 
-/// The client holds the mutex, and stops the callout while its service waits for that. The answer is the arming that waits.
-fn stop_what_waits<N: Name, R: Wait + Abort + Sync>(
-    rt: &R,
-    service: &Service<N>,
-    log: &mut Vec<Note>,
-    client: &mut Passes,
-    cpu: &mut Passes,
-    locks: &ClientLocks,
-) -> u64
-    requires scene { IsLocked service.now }
-    requires client { AreOf N.name service.now client.old }
-    requires kept { KeepsFree N.name service.now (cpu_actor (actors_of service.now) 0) false 0 cpu.old }
-    requires scans { cpu.old.actor ≡ scanner (actors_of service.now) 0 }
-    requires locks { locks.now ≡ LockKind.Mtx ∷ [] }
-    ensures of { AreOf N.name service.now cpu.new }
-    ensures serving { IsServing false cpu.new 0 (record { i = 0; n = result }) (Waits result) }
-{
-    let hold = locks.lock(rt, 0);
-    let arming = PlainOp::Reset {
-        due: seconds(1),
-        prec: Sbt::zero(),
-        func: 0,
-        arg: 0,
-        cpu: None,
-    };
-    ask_held(rt, service, log, client, 1, arming, &hold);
-    tick(rt, service, log, cpu, 0, seconds(1));
-    let taken = service.next(rt, cpu, 0, 0, 1);
-    let n = keep_waiting(rt, log, taken);
-    ask_held(rt, service, log, client, 2, PlainOp::Stop, &hold);
-    drop(hold);
-    n
-}
-
 /// The CPU, whose service of this arming waits, begins under the mutex, and its service ends.
 fn end_what_waits<N: Name, R: Wait + Abort + Sync>(
     rt: &R,
@@ -162,9 +108,22 @@ pub(super) fn play<N: Name, R: Wait + Abort + Sync>(
     requires scene { IsLocked service.now }
     requires passes { AreBooted N.name service.now passes }
 {
-    let locks = mutex(rt, alloc);
+    let locks = ClientLocks::new(alloc, &[LockKind::Mtx]).expect(rt, "no memory");
     let (mut client, mut cpu) = leave_two(service, passes);
-    let n = stop_what_waits(rt, service, log, &mut client, &mut cpu, &locks);
+    let hold = locks.lock(rt, 0);
+    let arming = PlainOp::Reset {
+        due: seconds(1),
+        prec: Sbt::zero(),
+        func: 0,
+        arg: 0,
+        cpu: None,
+    };
+    ask_held(rt, service, log, &mut client, 1, arming, &hold);
+    tick(rt, service, log, &mut cpu, 0, seconds(1));
+    let taken = service.next(rt, &mut cpu, 0, 0, 1);
+    let n = keep_waiting(rt, log, taken);
+    ask_held(rt, service, log, &mut client, 2, PlainOp::Stop, &hold);
+    drop(hold);
     end_what_waits(rt, service, log, &mut cpu, n, &locks);
     drop(client);
     drop(cpu);

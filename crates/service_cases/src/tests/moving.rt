@@ -9,7 +9,7 @@ ghost use Rattle.co_desk.specs.Views.{AreOf};
 ghost use Rattle.co_service.specs.Booted.{AreBooted};
 ghost use Rattle.service_cases.specs.Scenes.{IsScene};
 
-use super::acts::{finish, rest, start, tick};
+use super::acts::{finish, keep_begun, rest, tick};
 use super::cast::leave_three;
 use super::notes::{Lane, Row, Told};
 use super::stage::{arm, seconds};
@@ -36,23 +36,8 @@ fn begin_turn<N: Name, R: Wait + Abort>(
     ensures serving { (d : Due) × IsServing false passes.new cpu d (Runs d.n) }
 {
     tick(rt, service, log, passes, cpu, seconds(at));
-    start(rt, service, log, passes, cpu);
-}
-
-/// The function returns, and nothing more has come due.
-fn end_turn<N: Name, R: Wait + Abort>(
-    rt: &R,
-    service: &Service<N>,
-    log: &mut Vec<Note>,
-    passes: &mut Passes,
-    cpu: u32,
-)
-    requires cpu { cpu < service.now.cpus }
-    requires passes { AreOf N.name service.now passes.old }
-    requires serving { (d : Due) × IsServing false passes.old cpu d (Runs d.n) }
-{
-    finish(rt, service, log, passes, cpu);
-    rest(rt, service, log, passes, cpu);
+    let taken = service.next(rt, passes, cpu, 0, 1);
+    keep_begun(rt, log, taken);
 }
 
 /// The client arms the callout for the second CPU while the first one serves it, and then the second one serves it.
@@ -69,9 +54,11 @@ pub(super) fn play<N: Name, R: Wait + Abort>(
     arm(rt, service, log, &mut client, 0, 0, seconds(1), 0, None);
     begin_turn(rt, service, log, &mut first, 0, 1);
     arm(rt, service, log, &mut client, 1, 0, seconds(2), 1, Some(1));
-    end_turn(rt, service, log, &mut first, 0);
+    finish(rt, service, log, &mut first, 0);
+    rest(rt, service, log, &mut first, 0);
     begin_turn(rt, service, log, &mut second, 1, 2);
-    end_turn(rt, service, log, &mut second, 1);
+    finish(rt, service, log, &mut second, 1);
+    rest(rt, service, log, &mut second, 1);
     drop(client);
     drop(first);
     drop(second);

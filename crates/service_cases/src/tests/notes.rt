@@ -54,8 +54,18 @@ fn ran(op: RunOp, reply: Reply) -> Option<(Op, Reply)> {
     Some((Op::Run(op), reply))
 }
 
-/// A call on a callout, and its reply.
-fn call_of(told: &Told) -> Option<(Op, Reply)> {
+/// The arming that moves on.
+fn next_of(next: Option<(u64, u32, i32)>) -> Option<Next> {
+    let (n, cpu, due) = next?;
+    Some(Next {
+        n,
+        cpu,
+        due: seconds(due),
+    })
+}
+
+/// A call on a callout or a step of its service, and its reply.
+fn callout_of(told: &Told) -> Option<(Op, Reply)> {
     match *told {
         Told::Stopped(code, off) => called(PlainOp::Stop, Reply::Stopped { code, off }),
         Told::Armed(due, arg, cpu, n, at) => {
@@ -74,23 +84,6 @@ fn call_of(told: &Told) -> Option<(Op, Reply)> {
             };
             called(op, reply)
         }
-        _ => None,
-    }
-}
-
-/// The arming that moves on.
-fn next_of(next: Option<(u64, u32, i32)>) -> Option<Next> {
-    let (n, cpu, due) = next?;
-    Some(Next {
-        n,
-        cpu,
-        due: seconds(due),
-    })
-}
-
-/// A step of a callout's service, and its reply.
-fn service_of(told: &Told) -> Option<(Op, Reply)> {
-    match *told {
         Told::Picked(n, cpu, at, arg) => {
             let reply = match arg {
                 Some(arg) => Reply::Go { func: 0, arg },
@@ -112,8 +105,16 @@ fn service_of(told: &Told) -> Option<(Op, Reply)> {
     }
 }
 
-/// An operation of a CPU's queue, and its reply.
-fn queue_of(told: &Told) -> Option<(QOp, QReply)> {
+/// One is taken from this lane.
+fn pop(lane: Lane) -> QOp {
+    match lane {
+        Lane::Own => QOp::Pop,
+        Lane::Direct => QOp::PopDirect,
+    }
+}
+
+/// An operation of a CPU's queue or of one of its lanes, and its reply.
+fn cpu_of(told: &Told) -> Option<(QOp, QReply)> {
     match *told {
         Told::Inserted(i, n, t) => {
             let t = seconds(t);
@@ -124,21 +125,6 @@ fn queue_of(told: &Told) -> Option<(QOp, QReply)> {
             let now = seconds(now);
             Some((QOp::Scan { now }, QReply::Count(count)))
         }
-        _ => None,
-    }
-}
-
-/// One is taken from this lane.
-fn pop(lane: Lane) -> QOp {
-    match lane {
-        Lane::Own => QOp::Pop,
-        Lane::Direct => QOp::PopDirect,
-    }
-}
-
-/// An operation of a lane of a CPU, and its reply.
-fn lane_of(told: &Told) -> Option<(QOp, QReply)> {
-    match *told {
         Told::Popped(lane, i, n, at) => {
             let at = seconds(at);
             Some((pop(lane), QReply::Got { i, n, at }))
@@ -150,43 +136,25 @@ fn lane_of(told: &Told) -> Option<(QOp, QReply)> {
     }
 }
 
-/// An entry of a callout's history.
-fn of_callout(actor: u32, act: u64, op: Op, reply: Reply) -> AnyEntry {
-    let entry = Entry {
-        actor,
-        act,
-        op,
-        reply,
-    };
-    AnyEntry::Timer(entry)
-}
-
-/// An entry of a CPU's journal.
-fn of_cpu(actor: u32, act: u64, op: QOp, reply: QReply) -> AnyEntry {
+/// The entry of an actor's act that says this.
+fn entry_of(actor: u32, act: u64, told: &Told) -> Option<AnyEntry> {
+    if let Some((op, reply)) = callout_of(told) {
+        let entry = Entry {
+            actor,
+            act,
+            op,
+            reply,
+        };
+        return Some(AnyEntry::Timer(entry));
+    }
+    let (op, reply) = cpu_of(told)?;
     let entry = QEntry {
         actor,
         act,
         op,
         reply,
     };
-    AnyEntry::Cpu(entry)
-}
-
-/// The entry of an actor's act that says this.
-fn entry_of(actor: u32, act: u64, told: &Told) -> Option<AnyEntry> {
-    if let Some((op, reply)) = call_of(told) {
-        return Some(of_callout(actor, act, op, reply));
-    }
-    if let Some((op, reply)) = service_of(told) {
-        return Some(of_callout(actor, act, op, reply));
-    }
-    if let Some((op, reply)) = queue_of(told) {
-        return Some(of_cpu(actor, act, op, reply));
-    }
-    match lane_of(told) {
-        Some((op, reply)) => Some(of_cpu(actor, act, op, reply)),
-        None => None,
-    }
+    Some(AnyEntry::Cpu(entry))
 }
 
 /// Whether a note is as the row tells.

@@ -1,6 +1,5 @@
 //! A service to play on, and calls on it.
 ghost use Rattle.std.specs.Prelude.{◌≡◌, ◌+◌, ◌==◌, ◌<◌, ◌≤◌, if◌then◌else◌, ℕ, IfOk, length, false};
-ghost use Rattle.std.specs.List.{All};
 ghost use Rattle.std.specs.declared.option.Option.{Option};
 ghost use Rattle.co_object.specs.declared.op.CallOp.TheVariants.{Plain};
 ghost use Rattle.co_object.specs.declared.op.PlainOp.TheVariants.{Reset};
@@ -8,7 +7,7 @@ ghost use Rattle.co_object.specs.declared.spec.LockUse.TheVariants.{Free};
 ghost use Rattle.co_service.specs.Booted.{AreBooted};
 ghost use Rattle.co_desk.specs.Call.{NamesCpu};
 ghost use Rattle.co_desk.specs.Params.{spec_at};
-ghost use Rattle.service_cases.specs.Scenes.{IsFreeSpec, IsScene};
+ghost use Rattle.service_cases.specs.Scenes.{IsScene};
 ghost use Rattle.co_desk.specs.Views.{AreOf};
 
 use co_object::{CallOp, LockUse, Note, PlainOp, Spec};
@@ -23,44 +22,7 @@ pub(super) fn seconds(count: i32) -> Sbt {
     Sbt::from_ticks(count, 1)
 }
 
-/// A callout without a lock.
-fn free_spec(direct: bool) -> Spec
-    ensures { result ≡ record { lock = Free; returns_unlocked = false; direct = direct } }
-{
-    Spec {
-        lock: LockUse::Free,
-        returns_unlocked: false,
-        direct,
-    }
-}
-
-/// Whether callout `i` is the first, and is to be direct.
-fn is_direct(direct: bool, i: u32) -> bool
-    ensures { direct ≡ false → result ≡ false }
-{
-    direct && i == 0
-}
-
-/// What is fixed of `callouts` callouts without a lock, of which the first is direct where `direct`.
-fn free_specs(
-    alloc: Global,
-    version: u32,
-    callouts: u32,
-    direct: bool,
-) -> Result<Seq<Spec>, NoMemory>
-    requires { version ≡ 1 → direct ≡ false }
-    ensures count { IfOk result (λ specs. length specs ≡ callouts) }
-    ensures each { IfOk result (All (IsFreeSpec version)) }
-{
-    let mut specs = Seq::new(alloc);
-    for i in 0..callouts {
-        specs.push(free_spec(is_direct(direct, i)))?;
-    }
-    Ok(specs)
-}
-
-/// A service of one client and so many CPUs, with 16 buckets each, and callouts without locks. The first callout is direct
-/// where `direct`.
+/// A service of one client and so many CPUs, with 16 buckets each, and callouts without locks, which are direct where `direct`.
 pub(super) fn boot(
     alloc: Global,
     version: u32,
@@ -75,13 +37,18 @@ pub(super) fn boot(
     ensures scene { IfOk result (λ made. IsScene version cpus callouts (if version == 1 then 1 + cpus else 1 + (cpus + cpus)) made.0.params) }
     ensures passes { IfOk result (λ made. AreBooted made.0.name made.0.params made.1) }
 {
-    let specs = free_specs(alloc, version, callouts, direct)?;
+    let spec = Spec {
+        lock: LockUse::Free,
+        returns_unlocked: false,
+        direct,
+    };
+    let specs = Seq::filled(alloc, callouts as usize, spec)?;
     Service::boot(alloc, version, cpus, 16, 1, specs.as_slice())
 }
 
 /// Keeps a note.
 pub(super) fn keep<R: Abort>(rt: &R, log: &mut Vec<Note>, note: Note) {
-    assert!(rt; log.push(note).is_ok());
+    log.push(note).expect(rt, "no memory");
 }
 
 /// Keeps the notes of an answer.

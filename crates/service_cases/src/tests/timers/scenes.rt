@@ -9,8 +9,8 @@ use co_hand::PortReply;
 use co_object::Reply;
 use co_service::Name;
 use co_timers::{
-    AsyncDrained, Client, Cpu, Drained, Posts, Refused, Reset, Served, Stopped, Timers,
-    TimersFresh, Turned,
+    AsyncDrained, Client, Cpu, Drained, Refused, Reset, Served, Stopped, Timers, TimersFresh,
+    Turned,
 };
 use std::alloc::Global;
 use std::marker::Brand;
@@ -126,33 +126,6 @@ struct Cast<'r, 'a, N: Name, R: Wait> {
 }
 
 impl<'r, 'a, N: Name, R: Wait + Sync> Cast<'r, 'a, N, R> {
-    /// The client's calls with the lock of callout 1: whether each is answered as it has to be.
-    fn calls_held(&mut self, rt: &R, timers: &Timers<N>, steps: &[Step]) -> bool
-        ensures first { self.new.first ≡ self.old.first }
-        ensures second { self.new.second ≡ self.old.second }
-    {
-        match timers.lock(rt, 0) {
-            Some(hold) => wrong_step(rt, &mut self.client, Some(&hold), None, steps).is_none(),
-            None => false,
-        }
-    }
-
-    /// A CPU's turn: whether it is as it has to be.
-    fn turns(&mut self, rt: &R, cpu: u32, at: i32, wanted: Turned) -> bool
-        requires first { self.old.first.others.passes.params ≡ scene }
-        requires second { self.old.second.others.passes.params ≡ scene }
-        ensures first { self.new.first.others.passes.params ≡ scene }
-        ensures second { self.new.second.others.passes.params ≡ scene }
-    {
-        let at = seconds(at);
-        let turned = if cpu == 0 {
-            self.first.turn(rt, at, &mut self.functions)
-        } else {
-            self.second.turn(rt, at, &mut self.functions)
-        };
-        turned == wanted
-    }
-
     /// Whether a row is as it has to be.
     fn is_right(&mut self, rt: &R, timers: &Timers<N>, row: &Row) -> bool
         requires first { self.old.first.others.passes.params ≡ scene }
@@ -162,14 +135,23 @@ impl<'r, 'a, N: Name, R: Wait + Sync> Cast<'r, 'a, N, R> {
     {
         match *row {
             Row::Free(steps) => wrong_step(rt, &mut self.client, None, None, steps).is_none(),
-            Row::Held(steps) => self.calls_held(rt, timers, steps),
+            Row::Held(steps) => match timers.lock(rt, 0) {
+                Some(hold) => wrong_step(rt, &mut self.client, Some(&hold), None, steps).is_none(),
+                None => false,
+            },
             Row::Turn(cpu, at, scanned, direct, others) => {
+                let at = seconds(at);
+                let turned = if cpu == 0 {
+                    self.first.turn(rt, at, &mut self.functions)
+                } else {
+                    self.second.turn(rt, at, &mut self.functions)
+                };
                 let wanted = Turned {
                     scanned,
                     direct,
                     others,
                 };
-                self.turns(rt, cpu, at, wanted)
+                turned == wanted
             }
         }
     }
@@ -188,33 +170,7 @@ impl<'r, 'a, N: Name, R: Wait + Sync> Cast<'r, 'a, N, R> {
     }
 }
 
-/// The first row of a scene on an open service that is not as it has to be, if any is, and what the functions have seen.
-fn play_on<N: Name, R: Wait + Sync + Abort>(
-    rt: &R,
-    timers: &Timers<N>,
-    posts: &mut Posts<N>,
-    rows: &[Row],
-) -> (Option<usize>, Seen)
-    requires posts { timers.now.params ≡ posts.old.params }
-    requires scene { timers.now.params ≡ scene }
-{
-    let functions = Functions {
-        rt,
-        client: posts.client(timers, 1).expect(rt, "client 1 is here"),
-        seen: NOTHING,
-    };
-    let mut cast = Cast {
-        client: posts.client(timers, 0).expect(rt, "client 0 is here"),
-        first: posts.cpu_handle(timers, 0).expect(rt, "CPU 0 is here"),
-        second: posts.cpu_handle(timers, 1).expect(rt, "CPU 1 is here"),
-        functions,
-    };
-    let story = cast.wrong_row(rt, timers, rows);
-    drop(cast);
-    story
-}
-
-/// The same on a service that is opened for it.
+/// The first row of a scene that is not as it has to be, if any is, on a service that is opened for it, and what the functions have seen.
 fn play<N: Name, R: Wait + Sync + Abort>(
     rt: &R,
     alloc: Global,
@@ -225,7 +181,19 @@ fn play<N: Name, R: Wait + Sync + Abort>(
     requires scene { fresh.params ≡ scene }
 {
     let (timers, mut posts) = open::<N, R>(rt, alloc, fresh);
-    let story = play_on(rt, &timers, &mut posts, rows);
+    let functions = Functions {
+        rt,
+        client: posts.client(&timers, 1).expect(rt, "client 1 is here"),
+        seen: NOTHING,
+    };
+    let mut cast = Cast {
+        client: posts.client(&timers, 0).expect(rt, "client 0 is here"),
+        first: posts.cpu_handle(&timers, 0).expect(rt, "CPU 0 is here"),
+        second: posts.cpu_handle(&timers, 1).expect(rt, "CPU 1 is here"),
+        functions,
+    };
+    let story = cast.wrong_row(rt, &timers, rows);
+    drop(cast);
     drop((timers, posts));
     story
 }

@@ -22,21 +22,6 @@ pub(super) enum Step {
     Retire(u32),
 }
 
-/// Whether the drain is answered so, under this hold and in the function of this service.
-fn is_drained<N: Name, R: Wait>(
-    rt: &R,
-    client: &mut Client<'_, N>,
-    hold: Option<&Hold<'_>>,
-    service: Option<&Fire>,
-    i: u32,
-    wanted: Result<Drained, Refused>,
-) -> bool {
-    match service {
-        Some(fire) => client.drain_within(rt, i, fire, hold) == wanted,
-        None => client.drain(rt, i, hold) == wanted,
-    }
-}
-
 /// Whether the call is answered so, under this hold and in the function of this service.
 fn is_answered<N: Name, R: Wait>(
     rt: &R,
@@ -54,7 +39,10 @@ fn is_answered<N: Name, R: Wait>(
             client.schedule(rt, i, seconds(at), zero, None, hold) == wanted
         }
         Step::Stop(i, wanted) => client.stop(rt, i, hold) == wanted,
-        Step::Drain(i, wanted) => is_drained(rt, client, hold, service, i, wanted),
+        Step::Drain(i, wanted) => match service {
+            Some(fire) => client.drain_within(rt, i, fire, hold) == wanted,
+            None => client.drain(rt, i, hold) == wanted,
+        },
         Step::AsyncDrain(i, wanted) => client.async_drain(rt, i, 1, hold) == wanted,
         Step::Retire(i) => client.call(rt, i, &PlainOp::Retire, hold) == Ok(Reply::Done),
     }

@@ -7,7 +7,7 @@ use super::functions::{Functions, NOTHING};
 use super::stage::{boot, open, seconds};
 use co_sbt::Sbt;
 use co_service::Name;
-use co_timers::{Client, Cpu, Posts, Stopped, Timers, TimersFresh};
+use co_timers::{Client, Cpu, Stopped, TimersFresh};
 use std::alloc::Global;
 use std::marker::Brand;
 use std::process::Abort;
@@ -32,28 +32,7 @@ fn arm_often<N: Name, R: Wait>(rt: &R, mut client: Client<'_, N>, over: &AtomicB
     cancelled
 }
 
-/// Turns until all is over, and once more. The answer is how many functions it called.
-fn turn_until<N: Name, R: Wait + Sync>(
-    rt: &R,
-    cpu: &mut Cpu<'_, N>,
-    functions: &mut Functions<'_, '_, N, R>,
-    over: &AtomicBool,
-) -> u64
-    requires { cpu.old.others.passes.params ≡ scene }
-{
-    let mut called: u64 = 0;
-    for _ in rt.forever() {
-        let last = over.load(Ordering::SeqCst);
-        let turned = cpu.turn(rt, seconds(1), functions);
-        called = called.wrapping_add(turned.others.called);
-        if last {
-            return called;
-        }
-    }
-    unreachable!()
-}
-
-/// The same with functions of this client.
+/// Turns until all is over, and once more, with functions of this client. The answer is how many functions it called.
 fn turn_often<N: Name, R: Wait + Sync>(
     rt: &R,
     mut cpu: Cpu<'_, N>,
@@ -67,9 +46,17 @@ fn turn_often<N: Name, R: Wait + Sync>(
         client,
         seen: NOTHING,
     };
-    let called = turn_until(rt, &mut cpu, &mut functions, over);
-    drop((cpu, functions));
-    called
+    let mut called: u64 = 0;
+    for _ in rt.forever() {
+        let last = over.load(Ordering::SeqCst);
+        let turned = cpu.turn(rt, seconds(1), &mut functions);
+        called = called.wrapping_add(turned.others.called);
+        if last {
+            drop((cpu, functions));
+            return called;
+        }
+    }
+    unreachable!()
 }
 
 /// Both at once: how many armings were cancelled, and how many functions were called.
@@ -93,21 +80,6 @@ fn both<N: Name + Send + Sync, R: Threads + Wait + Sync>(
     )
 }
 
-/// The same on an open service.
-fn play_on<N: Name + Send + Sync, R: Threads + Wait + Sync + Abort>(
-    rt: &R,
-    timers: &Timers<N>,
-    posts: &mut Posts<N>,
-) -> (u64, u64)
-    requires posts { timers.now.params ≡ posts.old.params }
-    requires scene { timers.now.params ≡ scene }
-{
-    let client = posts.client(timers, 0).expect(rt, "client 0 is here");
-    let cpu = posts.cpu_handle(timers, 0).expect(rt, "CPU 0 is here");
-    let other = posts.client(timers, 1).expect(rt, "client 1 is here");
-    both(rt, client, cpu, other)
-}
-
 /// The same on a service that is opened for it.
 fn play<N: Name + Send + Sync, R: Threads + Wait + Sync + Abort>(
     rt: &R,
@@ -118,7 +90,10 @@ fn play<N: Name + Send + Sync, R: Threads + Wait + Sync + Abort>(
     requires scene { fresh.params ≡ scene }
 {
     let (timers, mut posts) = open::<N, R>(rt, alloc, fresh);
-    let story = play_on(rt, &timers, &mut posts);
+    let client = posts.client(&timers, 0).expect(rt, "client 0 is here");
+    let cpu = posts.cpu_handle(&timers, 0).expect(rt, "CPU 0 is here");
+    let other = posts.client(&timers, 1).expect(rt, "client 1 is here");
+    let story = both(rt, client, cpu, other);
     drop((timers, posts));
     story
 }
