@@ -1,5 +1,5 @@
 //! A timer queue through armings, stops and scans.
-ghost use Rattle.std.specs.Prelude.{◌≡◌, ◌≤◌, ◌<◌, length};
+ghost use Rattle.std.specs.Prelude.{◌≡◌, ◌≤◌, ◌<◌, IfOk};
 ghost use Rattle.co_queue.specs.Timers.{IsWheel};
 
 use co_bucket::WheelQueue;
@@ -115,25 +115,15 @@ fn arm_all<Q: TimerQueue>(queue: &mut Q, work: &Work) -> Counts
     counts
 }
 
-/// Runs a new list.
-fn run_list(alloc: Global, buckets: u32, direct: &[bool], work: &Work) -> Result<Counts, NoMemory>
+/// Runs a queue that was just made, where it was.
+fn run_made<Q: TimerQueue + Drop>(
+    made: Result<Q, NoMemory>,
+    work: &Work,
+) -> Result<Counts, NoMemory>
     requires some { 1 ≤ work.now.callouts }
-    requires few { work.now.callouts ≤ 1024 }
-    requires buckets { IsWheel buckets }
-    requires size { length direct.now ≡ work.now.callouts }
+    requires size { IfOk made (λ queue. work.now.callouts ≤ (Q.state queue).size) }
 {
-    let mut queue = ListQueue::new(alloc, work.callouts, buckets, direct)?;
-    Ok(arm_all(&mut queue, work))
-}
-
-/// Runs a new wheel.
-fn run_wheel(alloc: Global, buckets: u32, direct: &[bool], work: &Work) -> Result<Counts, NoMemory>
-    requires some { 1 ≤ work.now.callouts }
-    requires few { work.now.callouts ≤ 1024 }
-    requires buckets { IsWheel buckets }
-    requires size { length direct.now ≡ work.now.callouts }
-{
-    let mut queue = WheelQueue::new(alloc, work.callouts, buckets, direct)?;
+    let mut queue = made?;
     Ok(arm_all(&mut queue, work))
 }
 
@@ -143,9 +133,10 @@ pub fn run(alloc: Global, kind: Kind, buckets: u32, work: &Work) -> Result<Count
     requires few { work.now.callouts ≤ 1024 }
     requires buckets { IsWheel buckets }
 {
-    let direct = Seq::filled(alloc, work.callouts as usize, false)?;
+    let all = Seq::filled(alloc, work.callouts as usize, false)?;
+    let direct = all.as_slice();
     match kind {
-        Kind::List => run_list(alloc, buckets, direct.as_slice(), work),
-        Kind::Wheel => run_wheel(alloc, buckets, direct.as_slice(), work),
+        Kind::List => run_made(ListQueue::new(alloc, work.callouts, buckets, direct), work),
+        Kind::Wheel => run_made(WheelQueue::new(alloc, work.callouts, buckets, direct), work),
     }
 }

@@ -3,6 +3,7 @@ ghost use Rattle.std.specs.Prelude.{◌≡◌, ◌<◌};
 ghost use Rattle.co_program.specs.Actors.{actor_count};
 ghost use Rattle.co_program.specs.Scripts.{IsScript};
 
+use crate::walk::count_notes;
 use co_core::{Turn, World};
 use co_program::{Script, actor_count};
 use co_sbt::NoMemory;
@@ -35,18 +36,6 @@ fn step(world: &mut World<'_>, actor: u32, refused: &mut u64) -> Result<Turn, No
     Err(NoMemory {})
 }
 
-/// The script's turns.
-fn make_turns(script: &Script, world: &mut World<'_>, refused: &mut u64) -> Result<(), NoMemory>
-    requires script { IsScript script.now }
-    requires world { world.old.script ≡ script.now }
-    ensures { world.new.script ≡ script.now }
-{
-    for actor in script.turns.as_slice() {
-        step(world, *actor, refused)?;
-    }
-    Ok(())
-}
-
 /// A round: each actor steps once. The answer is whether all had finished.
 fn make_round(script: &Script, world: &mut World<'_>, refused: &mut u64) -> Result<bool, NoMemory>
     requires script { IsScript script.now }
@@ -61,29 +50,22 @@ fn make_round(script: &Script, world: &mut World<'_>, refused: &mut u64) -> Resu
     Ok(finished)
 }
 
-/// How many notes there are so far.
-fn count_notes(world: &World<'_>) -> u64 {
-    let mut notes: u64 = 0;
-    for list in world.lists().as_slice() {
-        notes = notes.saturating_add(list.as_slice().len() as u64);
-    }
-    notes
-}
-
 /// Steps the world by the script's turns, and then by round robin until all have finished.
 fn finish<R: Wait>(rt: &R, script: &Script, world: &mut World<'_>) -> Result<Walked, NoMemory>
     requires script { IsScript script.now }
     requires world { world.old.script ≡ script.now }
 {
     let mut refused = 0;
-    make_turns(script, world, &mut refused)?;
+    for actor in script.turns.as_slice() {
+        step(world, *actor, &mut refused)?;
+    }
     for _ in rt.forever() {
         if make_round(script, world, &mut refused)? {
             break;
         }
     }
     Ok(Walked {
-        notes: count_notes(world),
+        notes: count_notes(world.lists()),
         refused,
     })
 }
