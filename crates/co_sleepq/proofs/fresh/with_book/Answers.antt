@@ -1,5 +1,4 @@
-use Rattle.std.proofs.Common.{ℕ, ap, sym, ◌∙◌, subst, arith}
-use Rattle.co_desk.specs.Params.{actor_count}
+use Rattle.std.proofs.Common.{ℕ, ap, sym, subst}
 use Rattle.co_service.specs.Booted.{AreBooted}
 use Rattle.co_sleepq.specs.Fresh.{AreFreshPasses}
 use Rattle.co_sleepq.specs.Params.{actors}
@@ -14,9 +13,3 @@ pair-all-requires-clause-passes c = subst (AreBooted c.in_ok-service.service.nam
 
 pub returns-clause-passes : goal.returns-clause-passes
 returns-clause-passes c = subst (λ (n : ℕ). AreFreshPasses (record { service = c.in_ok-service.service.name; book = c.in_ok-life.life }) c.in_ok-service.service.params n c.pair-all.result) (ap actors c.in_ok-service.ensures.params) c.pair-all.ensures
-
-pub pair-all-requires-clause-count : goal.pair-all-requires-clause-count
-pair-all-requires-clause-count c = ap actors c.in_ok-service.ensures.params ∙ sym (ap actor_count c.in_ok-service.ensures.params)
-
-pub pair-all-requires-clause-room : goal.pair-all-requires-clause-room
-pair-all-requires-clause-room c = let same = ap actors c.in_ok-service.ensures.params in omega (arith, same, c.requires.room)
