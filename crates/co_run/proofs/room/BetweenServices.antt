@@ -1,6 +1,5 @@
 -- Where an actor may be refused memory: between two services, where nothing is in service.
 use Rattle.std.proofs.Common.{◌≡◌, ℕ, true, false, refl}
-use Rattle.std.specs.Prelude.{Result, Ok, Err, OnErr}
 use Rattle.co_object.specs.declared.QOp.{QOp}
 use Rattle.co_program.specs.declared.Role.{Role}
 use Rattle.co_program.specs.declared.Script.{Script}
@@ -55,8 +54,3 @@ resting_free (Unlocking v acts) h = cc
 resting_free (Releasing v) h = cc
 resting_free (Ending v) h = cc
 resting_free (Freeing v drain next) h = cc
-
--- what holds anyway, holds after a refusal
-pub on_err : {T E P : Type 0} (r : Result T E) → P → OnErr r P
-on_err (Ok x) p = tt
-on_err (Err e) p = p
