@@ -1,6 +1,6 @@
 //! What is known of each callout while its notes come.
 ghost use Rattle.std.specs.Prelude.{◌≡◌, replicate, slice_set, IfOk, if◌then◌else◌};
-ghost use Rattle.co_view.specs.Scenes.{stays_armed, armed_by_call, is_hold, is_wait, quiet, scene_behind, serviced_by, since_by, waits_by, waits_by_call, watch_of, watched};
+ghost use Rattle.co_view.specs.Scenes.{stays_armed, armed_by_call, is_wait, quiet, scene_behind, serviced_by, since_by, waits_by, waits_by_call, watch_of, watched};
 
 use co_object::{AnyEntry, CallOp, Entry, Op, Place, PlainOp, Reply, RunOp};
 use co_report::Line;
@@ -73,21 +73,12 @@ fn waits_by_call(was: bool, op: &CallOp, reply: &Reply) -> bool
     }
 }
 
-fn is_hold(reply: &Reply) -> bool
-    ensures { result ≡ is_hold reply.now }
-{
-    match reply {
-        Reply::Hold => true,
-        _ => false,
-    }
-}
-
 fn waits_by(was: bool, op: &Op, reply: &Reply) -> bool
     ensures { result ≡ waits_by was op.now reply.now }
 {
     match op {
         Op::Call(op) => waits_by_call(was, op, reply),
-        Op::Run(RunOp::Pick { .. }) => is_hold(reply),
+        Op::Run(RunOp::Pick { .. }) => matches!(reply, Reply::Hold),
         Op::Run(_) => false,
     }
 }
@@ -111,28 +102,14 @@ fn since_by(was: usize, step: usize, op: &Op) -> usize
     }
 }
 
-/// Whether a drain begins to wait.
-fn is_wait(reply: &Reply) -> bool
-    ensures { result ≡ is_wait reply.now }
+/// What is so from a drain's wait on, where one begins now, and else what was.
+fn at_wait<T: Copy>(was: T, now: T, reply: &Reply) -> T
+    ensures { result ≡ (if is_wait reply.now then now else was) }
 {
     match reply {
-        Reply::Wait { .. } => true,
-        _ => false,
+        Reply::Wait { .. } => now,
+        _ => was,
     }
-}
-
-/// The actor whose drain waited last.
-fn waiter_by(was: u32, now: u32, reply: &Reply) -> u32
-    ensures { result ≡ (if is_wait reply.now then now else was) }
-{
-    if is_wait(reply) { now } else { was }
-}
-
-/// The step at which it began to wait.
-fn waited_by(was: usize, now: usize, reply: &Reply) -> usize
-    ensures { result ≡ (if is_wait reply.now then now else was) }
-{
-    if is_wait(reply) { now } else { was }
 }
 
 /// A callout behind an entry.
@@ -144,8 +121,8 @@ pub(crate) fn watched(step: usize, watch: Watch, entry: &Entry) -> Watch
         waits: waits_by(watch.waits, &entry.op, &entry.reply),
         serviced: serviced_by(watch.serviced, &entry.op),
         since: since_by(watch.since, step, &entry.op),
-        waiter: waiter_by(watch.waiter, entry.actor, &entry.reply),
-        waited: waited_by(watch.waited, step, &entry.reply),
+        waiter: at_wait(watch.waiter, entry.actor, &entry.reply),
+        waited: at_wait(watch.waited, step, &entry.reply),
     }
 }
 

@@ -330,7 +330,13 @@ fn print_timers(page: &mut Page, tally: &Tally, timers: u32) -> Result<(), NoMem
 fn pending_in_all(scene: &[Watch]) -> u64
     ensures { result ≡ count_by is_open scene.now }
 {
-    scene.iter().filter(|watch| is_open(watch)).count() as u64
+    let mut pending: u64 = 0;
+    for watch in scene {
+        if is_open(watch) {
+            pending += 1;
+        }
+    }
+    pending
 }
 
 /// The row of all.

@@ -15,20 +15,6 @@ use co_report::Line;
 use co_sbt::NoMemory;
 use co_text::Page;
 
-/// The end of a bar in a callout's lane.
-fn print_end(page: &mut Page, lane: u64, step: usize) -> Result<(), NoMemory>
-    ensures { OnOk result (page.new ≡ page.old ++ end_text lane step) }
-{
-    print_parts(
-        page,
-        &[
-            Part::Text(b",\n{\"ph\":\"E\",\"pid\":1,\"tid\":"),
-            Part::At(lane, step),
-            Part::Text(b"}"),
-        ],
-    )
-}
-
 /// The beginning of a bar in a callout's lane: an arming's number, and what it is doing.
 fn print_begin(
     page: &mut Page,
@@ -80,12 +66,19 @@ fn ends_armed(watch: Watch, entry: &Entry) -> bool
     watch.armed && (is_armed_reply(&entry.reply) || !stays)
 }
 
-/// The end of a bar, where a test passes.
+/// The end of a bar in a callout's lane, where a test passes.
 fn print_end_if(page: &mut Page, ends: bool, lane: u64, step: usize) -> Result<(), NoMemory>
     ensures { OnOk result (page.new ≡ page.old ++ text_if ends (end_text lane step)) }
 {
     if ends {
-        print_end(page, lane, step)
+        print_parts(
+            page,
+            &[
+                Part::Text(b",\n{\"ph\":\"E\",\"pid\":1,\"tid\":"),
+                Part::At(lane, step),
+                Part::Text(b"}"),
+            ],
+        )
     } else {
         Ok(())
     }

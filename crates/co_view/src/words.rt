@@ -81,15 +81,15 @@ fn print_queue_entry(page: &mut Page, cpu: u32, entry: &QEntry) -> Result<(), No
     print_answer(page, &entry.reply)
 }
 
-/// An act that was refused.
-fn print_own_entry(page: &mut Page, kind: OwnKind) -> Result<(), NoMemory>
-    ensures { OnOk result (page.new ≡ page.old ++ own_text kind) }
+/// Why an act was refused.
+fn own_word(kind: OwnKind) -> &'static [u8]
+    ensures { result.now ≡ own_text kind }
 {
     match kind {
-        OwnKind::NotHeld => page.text(b"refused: the call's lock is not held"),
-        OwnKind::HoldsLock => page.text(b"refused: a drain while a lock is held"),
-        OwnKind::Holding => page.text(b"refused: a lock while one is held"),
-        OwnKind::NotHolding => page.text(b"refused: an unlock while none is held"),
+        OwnKind::NotHeld => b"refused: the call's lock is not held",
+        OwnKind::HoldsLock => b"refused: a drain while a lock is held",
+        OwnKind::Holding => b"refused: a lock while one is held",
+        OwnKind::NotHolding => b"refused: an unlock while none is held",
     }
 }
 
@@ -100,6 +100,6 @@ pub(crate) fn print_note(page: &mut Page, place: Place, entry: &AnyEntry) -> Res
     match entry {
         AnyEntry::Timer(entry) => print_call_entry(page, place_number(place), entry),
         AnyEntry::Cpu(entry) => print_queue_entry(page, place_number(place), entry),
-        AnyEntry::Own(entry) => print_own_entry(page, entry.kind),
+        AnyEntry::Own(entry) => page.text(own_word(entry.kind)),
     }
 }

@@ -3,7 +3,7 @@ ghost use Rattle.std.specs.Prelude.{◌≡◌, ◌++◌, ◌∷◌, [], codes, d
 ghost use Rattle.co_object.specs.declared.PlainOp.TheVariants.{AsyncDrain, Reset};
 ghost use Rattle.co_notes.specs.Parts.{joined};
 ghost use Rattle.co_view.specs.Seconds.{seconds_word};
-ghost use Rattle.co_view.specs.Words.{call_words, on_timer, op_words, plain_words, run_words};
+ghost use Rattle.co_view.specs.Words.{on_timer, op_words, plain_words, run_words};
 
 use crate::words::begin_at;
 use co_object::{CallOp, Op, PlainOp, RunOp};
@@ -84,15 +84,6 @@ fn print_plain(page: &mut Page, timer: u32, op: &PlainOp) -> Result<(), NoMemory
     }
 }
 
-fn print_call(page: &mut Page, timer: u32, op: &CallOp) -> Result<(), NoMemory>
-    ensures { OnOk result (page.new ≡ page.old ++ joined (call_words timer op.now)) }
-{
-    match op {
-        CallOp::Plain(op) => print_plain(page, timer, op),
-        CallOp::DrainTry { .. } => print_on(page, b"drain timer", timer),
-    }
-}
-
 /// A verb, a callout and an arming's number.
 fn print_arming(page: &mut Page, verb: &[u8], timer: u32, n: u64) -> Result<(), NoMemory>
     ensures { OnOk result (page.new ≡ page.old ++ joined (verb.now ∷ decimal timer ∷ (35 ∷ decimal n) ∷ [])) }
@@ -136,7 +127,8 @@ pub(crate) fn print_op(page: &mut Page, timer: u32, op: &Op) -> Result<(), NoMem
     ensures { OnOk result (page.new ≡ page.old ++ joined (op_words timer op.now)) }
 {
     match op {
-        Op::Call(op) => print_call(page, timer, op),
+        Op::Call(CallOp::Plain(op)) => print_plain(page, timer, op),
+        Op::Call(CallOp::DrainTry { .. }) => print_on(page, b"drain timer", timer),
         Op::Run(op) => print_run(page, timer, op),
     }
 }

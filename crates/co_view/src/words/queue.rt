@@ -1,7 +1,7 @@
 //! Operations on a timer queue, and its answers.
 ghost use Rattle.std.specs.Prelude.{◌≡◌, ◌++◌, ◌∷◌, [], OnOk};
-ghost use Rattle.co_object.specs.declared.QOp.TheVariants.{Insert, Remove};
-ghost use Rattle.co_object.specs.declared.QReply.TheVariants.{Count, Got};
+ghost use Rattle.co_object.specs.declared.QOp.TheVariants.{Insert};
+ghost use Rattle.co_object.specs.declared.QReply.TheVariants.{Got};
 ghost use Rattle.co_text.specs.Lines.{spaced};
 ghost use Rattle.co_notes.specs.Parts.{joined};
 ghost use Rattle.co_view.specs.Words.{answer_words, queue_words};
@@ -28,22 +28,16 @@ fn print_insert(page: &mut Page, i: u32, n: u64, t: Sbt) -> Result<(), NoMemory>
     )
 }
 
-fn print_remove(page: &mut Page, i: u32) -> Result<(), NoMemory>
-    ensures { OnOk result (page.new ≡ page.old ++ joined (queue_words (Remove i))) }
-{
-    page.begin(
-        &Token::Text(b"remove timer"),
-        &[Token::Number(u64::from(i))],
-    )
-}
-
 /// An operation on a CPU's queue.
 pub(crate) fn print_queue_op(page: &mut Page, op: &QOp) -> Result<(), NoMemory>
     ensures { OnOk result (page.new ≡ page.old ++ joined (queue_words op.now)) }
 {
     match *op {
         QOp::Insert { i, n, t } => print_insert(page, i, n, t),
-        QOp::Remove { i } => print_remove(page, i),
+        QOp::Remove { i } => page.begin(
+            &Token::Text(b"remove timer"),
+            &[Token::Number(u64::from(i))],
+        ),
         QOp::Scan { now } => begin_at(page, &Token::Text(b"tick"), &[], now),
         QOp::Pop => begin_word(page, b"next due"),
         QOp::Free => begin_word(page, b"free"),
@@ -63,12 +57,6 @@ fn print_got(page: &mut Page, i: u32, n: u64, at: Sbt) -> Result<(), NoMemory>
     print_at(page, &before, at)
 }
 
-fn print_count(page: &mut Page, count: u32) -> Result<(), NoMemory>
-    ensures { OnOk result (page.new ≡ page.old ++ spaced (answer_words (Count count))) }
-{
-    page.more(&[Token::Text(b"-> due:"), Token::Number(u64::from(count))])
-}
-
 /// An answer of a CPU's queue.
 pub(crate) fn print_answer(page: &mut Page, answer: &QReply) -> Result<(), NoMemory>
     ensures { OnOk result (page.new ≡ page.old ++ spaced (answer_words answer.now)) }
@@ -77,7 +65,9 @@ pub(crate) fn print_answer(page: &mut Page, answer: &QReply) -> Result<(), NoMem
         QReply::At(time) => print_at(page, &[Token::Text(b"-> in the queue")], time),
         QReply::Off => print_word(page, b"-> out of the queue"),
         QReply::Missing => print_word(page, b"-> not in the queue"),
-        QReply::Count(count) => print_count(page, count),
+        QReply::Count(count) => {
+            page.more(&[Token::Text(b"-> due:"), Token::Number(u64::from(count))])
+        }
         QReply::Got { i, n, at } => print_got(page, i, n, at),
         QReply::Empty => print_word(page, b"-> none"),
         QReply::Freed => print_word(page, b"-> done"),
