@@ -14,8 +14,7 @@ use Rattle.co_run.specs.Over.{IsActorOver}
 use Rattle.co_run.specs.declared.book.KeptBook.{KeptBook}
 use Rattle.co_run.specs.declared.jobs.Crew.{Crew}
 use Rattle.co_run.specs.declared.jobs.Group.{Group}
-use Rattle.co_run.specs.declared.jobs.Job.{Job}
-use Rattle.co_run.specs.declared.jobs.Played.{Played}
+use Rattle.co_run.specs.declared.jobs.Kit.{Kit}
 
 -- the script may be run over a service of this name and of these parameters, by actors with these passes
 pub record MayRun (s : Script) (name : ServiceName) (p : Params) (passes : List PassesView) : Type 0 where
@@ -72,12 +71,12 @@ pub record IsJob (s : Script) (name : ServiceName) (number : ℕ) (q : PassesVie
   pub empty : IsEmpty notes spare
 
 -- the jobs of the actors before number `end`, the last of which comes first
-abbrev pub AreJobs : {B : Type 0} → Script → ServiceName → (B → List Note) → (B → ℕ) → ℕ → List (Job B) → Type 0
-AreJobs {B} s name notes spare end jobs = (k : ℕ) (job : Job B) → slice_get jobs k ≡ Some job → (a : ℕ) → a + k + 1 ≡ end → IsJob s name a job.passes (notes job.book) (spare job.book)
+abbrev pub AreJobs : {B : Type 0} → Script → ServiceName → (B → List Note) → (B → ℕ) → ℕ → List (Kit B) → Type 0
+AreJobs {B} s name notes spare end jobs = (k : ℕ) (job : Kit B) → slice_get jobs k ≡ Some job → (a : ℕ) → a + k + 1 ≡ end → IsJob s name a job.passes (notes job.book) (spare job.book)
 
 -- these actors have played their whole programs
-abbrev pub HavePlayed : {B : Type 0} → (B → List Note) → Script → ServiceName → ℕ → List (Played B) → Type 0
-HavePlayed {B} notes s name end all = (k : ℕ) (one : Played B) → slice_get all k ≡ Some one → (a : ℕ) → a + k + 1 ≡ end → IsActorOver s name a one.passes (notes one.book)
+abbrev pub HavePlayed : {B : Type 0} → (B → List Note) → Script → ServiceName → ℕ → List (Kit B) → Type 0
+HavePlayed {B} notes s name end all = (k : ℕ) (one : Kit B) → slice_get all k ≡ Some one → (a : ℕ) → a + k + 1 ≡ end → IsActorOver s name a one.passes (notes one.book)
 
 -- these are of the actors from `first` on and before `end`
 pub record IsGroup {X : Type 0} (Are : ℕ → List X → Type 0) (first end : ℕ) (xs : List X) : Type 0 where

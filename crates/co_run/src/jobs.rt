@@ -16,9 +16,9 @@ use co_service::{Name, Passes};
 use std::alloc::Global;
 use std::sync::Wait;
 
-/// What an actor begins with.
+/// What an actor begins with, and what it brings back.
 #[derive(Drop)]
-pub(crate) struct Job<B: Book> {
+pub(crate) struct Kit<B: Book> {
     pub(crate) passes: Passes,
     pub(crate) book: B,
 }
@@ -28,14 +28,7 @@ pub(crate) struct Job<B: Book> {
 pub(crate) struct Group<B: Book> {
     pub(crate) first: u32,
     pub(crate) end: u32,
-    pub(crate) jobs: Vec<Job<B>>,
-}
-
-/// What it brings back.
-#[derive(Drop)]
-pub(crate) struct Played<B: Book> {
-    pub(crate) passes: Passes,
-    pub(crate) book: B,
+    pub(crate) jobs: Vec<Kit<B>>,
 }
 
 /// Takes the last of these.
@@ -65,7 +58,7 @@ fn deal<N: Name, B: Book>(
     let mut jobs = Seq::new(alloc);
     for dealt in 0..count {
         let _ = dealt;
-        let job = Job {
+        let job = Kit {
             passes: take_last(passes),
             book: take_last(books),
         };
@@ -114,12 +107,12 @@ pub(crate) fn deal_all<N: Name, B: Book>(
 }
 
 /// What an actor brings back whose program is over.
-fn played_by<B: Book>(actor: Actor<'_, B>) -> Played<B>
+fn played_by<B: Book>(actor: Actor<'_, B>) -> Kit<B>
     ensures passes { result.passes ≡ actor.entry.passes }
     ensures book { result.book ≡ actor.entry.book }
 {
     let Actor { passes, book, .. } = actor;
-    Played { passes, book }
+    Kit { passes, book }
 }
 
 /// Plays the whole program of the actor of this number.
@@ -127,12 +120,12 @@ pub(crate) fn play_job<B: Book, N: Name, G: Gate, R: Wait + Sync>(
     rt: &R,
     shared: &Shared<'_, N, G>,
     number: u32,
-    job: Job<B>,
-) -> Result<Played<B>, NoMemory>
+    job: Kit<B>,
+) -> Result<Kit<B>, NoMemory>
     requires job { IsJob shared.now.script.now N.name number job.passes (B.notes job.book) (B.spare job.book) }
     ensures { IfOk result (λ played. IsActorOver shared.now.script.now N.name number played.passes (B.notes played.book)) }
 {
-    let Job { passes, book } = job;
+    let Kit { passes, book } = job;
     let mut actor = Actor::begins(shared, number, passes, book);
     match actor.play(rt, shared) {
         Ok(()) => Ok(played_by(actor)),

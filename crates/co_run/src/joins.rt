@@ -2,13 +2,13 @@
 //!
 //! A join runs its second branch in the thread that calls it, and the first one in a new thread, or last where none can be
 //! had. So the clients come first, then the interrupts, then the CPUs: an actor waits only for actors that have begun.
-ghost use Rattle.std.specs.Prelude.{◌≡◌, ◌+◌, ◌<◌, IfOk, Ok, OnOk};
+ghost use Rattle.std.specs.Prelude.{◌≡◌, ◌+◌, ◌<◌, IfOk, Ok};
 ghost use Rattle.co_run.specs.Jobs.{AreDealt, HasJobs, HavePlayed, IsCrew, IsGroup, IsJob};
 ghost use Rattle.co_run.specs.Over.{IsActorOver};
 ghost use denote.Param.Send.{IsSend, IsSync};
 
 use crate::book::Book;
-use crate::jobs::{Crew, Group, Job, Played, play_job, take_last};
+use crate::jobs::{Crew, Group, Kit, play_job, take_last};
 use crate::shared::Shared;
 use co_hand::Gate;
 use co_program::Script;
@@ -18,37 +18,22 @@ use std::alloc::Global;
 use std::sync::Wait;
 use std::thread::{Threads, join};
 
-/// One more actor has played its program, before these.
-fn add<N: Name, B: Book>(
-    script: &Script,
-    all: &mut Seq<Played<B>>,
-    one: Played<B>,
-    number: u32,
-    end: u32,
-) -> Result<(), NoMemory>
-    requires played { IsGroup (HavePlayed B.notes script.now N.name) (number + 1) end all.old }
-    requires over { IsActorOver script.now N.name number one.passes (B.notes one.book) }
-    ensures { OnOk result (IsGroup (HavePlayed B.notes script.now N.name) number end all.new) }
-{
-    let _ = (number, end);
-    let _ = script;
-    all.push(one)
-}
-
 /// What the first of these actors and the rest of them bring back, in their order: the first comes last.
 fn all_of<N: Name, B: Book>(
     script: &Script,
-    rest: Result<Seq<Played<B>>, NoMemory>,
-    one: Result<Played<B>, NoMemory>,
+    rest: Result<Seq<Kit<B>>, NoMemory>,
+    one: Result<Kit<B>, NoMemory>,
     first: u32,
     end: u32,
-) -> Result<Seq<Played<B>>, NoMemory>
+) -> Result<Seq<Kit<B>>, NoMemory>
     requires rest { IfOk rest (IsGroup (HavePlayed B.notes script.now N.name) (first + 1) end) }
     requires one { IfOk one (λ played. IsActorOver script.now N.name first played.passes (B.notes played.book)) }
     ensures { IfOk result (IsGroup (HavePlayed B.notes script.now N.name) first end) }
 {
+    let _ = script;
+    let _ = (first, end);
     let (mut all, one) = both(rest, one)?;
-    add::<N, B>(script, &mut all, one, first, end)?;
+    all.push(one)?;
     Ok(all)
 }
 
@@ -87,12 +72,9 @@ fn play_first<B: Book + Send, N: Name + Send + Sync, G: Gate + Sync, R: Threads 
     alloc: Global,
     shared: &Shared<'_, N, G>,
     first: u32,
-    job: Job<B>,
+    job: Kit<B>,
     later: Group<B>,
-) -> (
-    Result<Seq<Played<B>>, NoMemory>,
-    Result<Played<B>, NoMemory>,
-)
+) -> (Result<Seq<Kit<B>>, NoMemory>, Result<Kit<B>, NoMemory>)
     requires job { IsJob shared.now.script.now N.name first job.passes (B.notes job.book) (B.spare job.book) }
     requires later { HasJobs B.notes B.spare shared.now.script.now N.name later }
     ensures rest { IfOk result.0 (IsGroup (HavePlayed B.notes shared.now.script.now N.name) later.first later.end) }
@@ -100,11 +82,11 @@ fn play_first<B: Book + Send, N: Name + Send + Sync, G: Gate + Sync, R: Threads 
 {
     join(
         rt,
-        || -> Result<Seq<Played<B>>, NoMemory>
+        || -> Result<Seq<Kit<B>>, NoMemory>
             requires { IsSync R.row × IsSync G.row × IsSend B.row × HasJobs B.notes B.spare shared.now.script.now N.name later }
             ensures { IfOk result (IsGroup (HavePlayed B.notes shared.entry.now.script.now N.name) later.first later.end) }
         { play_group(rt, alloc, shared, later) },
-        || -> Result<Played<B>, NoMemory>
+        || -> Result<Kit<B>, NoMemory>
             requires { IsSync R.row × IsSync G.row × IsSend B.row × IsJob shared.now.script.now N.name first job.passes (B.notes job.book) (B.spare job.book) }
             ensures { IfOk result (λ played. IsActorOver shared.entry.now.script.now N.name first played.passes (B.notes played.book)) }
         { play_job(rt, shared, first, job) },
@@ -119,7 +101,7 @@ fn play_group<B: Book + Send, N: Name + Send + Sync, G: Gate + Sync, R: Threads 
     alloc: Global,
     shared: &Shared<'_, N, G>,
     group: Group<B>,
-) -> Result<Seq<Played<B>>, NoMemory>
+) -> Result<Seq<Kit<B>>, NoMemory>
     requires group { HasJobs B.notes B.spare shared.now.script.now N.name group }
     ensures { IfOk result (IsGroup (HavePlayed B.notes shared.now.script.now N.name) group.first group.end) }
 {
@@ -148,18 +130,18 @@ fn play_cpus<B: Book + Send, N: Name + Send + Sync, G: Gate + Sync, R: Threads +
     shared: &Shared<'_, N, G>,
     cpus: Group<B>,
     interrupts: Group<B>,
-) -> Result<(Seq<Played<B>>, Seq<Played<B>>), NoMemory>
+) -> Result<(Seq<Kit<B>>, Seq<Kit<B>>), NoMemory>
     requires cpus { HasJobs B.notes B.spare shared.now.script.now N.name cpus }
     requires interrupts { HasJobs B.notes B.spare shared.now.script.now N.name interrupts }
     ensures { IfOk result (λ all. IsGroup (HavePlayed B.notes shared.now.script.now N.name) cpus.first cpus.end all.0 × IsGroup (HavePlayed B.notes shared.now.script.now N.name) interrupts.first interrupts.end all.1) }
 {
     let (second, first) = join(
         rt,
-        || -> Result<Seq<Played<B>>, NoMemory>
+        || -> Result<Seq<Kit<B>>, NoMemory>
             requires { IsSync R.row × IsSync G.row × IsSend B.row × HasJobs B.notes B.spare shared.now.script.now N.name cpus }
             ensures { IfOk result (IsGroup (HavePlayed B.notes shared.entry.now.script.now N.name) cpus.first cpus.end) }
         { play_group(rt, alloc, shared, cpus) },
-        || -> Result<Seq<Played<B>>, NoMemory>
+        || -> Result<Seq<Kit<B>>, NoMemory>
             requires { IsSync R.row × IsSync G.row × IsSend B.row × HasJobs B.notes B.spare shared.now.script.now N.name interrupts }
             ensures { IfOk result (IsGroup (HavePlayed B.notes shared.entry.now.script.now N.name) interrupts.first interrupts.end) }
         { play_group(rt, alloc, shared, interrupts) },
@@ -178,7 +160,7 @@ pub(crate) fn play_all<
     alloc: Global,
     shared: &Shared<'_, N, G>,
     groups: Crew<Group<B>>,
-) -> Result<Crew<Seq<Played<B>>>, NoMemory>
+) -> Result<Crew<Seq<Kit<B>>>, NoMemory>
     requires { AreDealt B.notes B.spare shared.now.script.now N.name groups }
     ensures { IfOk result (λ all. IsCrew shared.now.script.now (HavePlayed B.notes shared.now.script.now N.name) all.clients all.cpus all.interrupts) }
 {
@@ -189,11 +171,11 @@ pub(crate) fn play_all<
     } = groups;
     let (others, first) = join(
         rt,
-        || -> Result<(Seq<Played<B>>, Seq<Played<B>>), NoMemory>
+        || -> Result<(Seq<Kit<B>>, Seq<Kit<B>>), NoMemory>
             requires { IsSync R.row × IsSync G.row × IsSend B.row × HasJobs B.notes B.spare shared.now.script.now N.name cpus × HasJobs B.notes B.spare shared.now.script.now N.name interrupts }
             ensures { IfOk result (λ all. IsGroup (HavePlayed B.notes shared.entry.now.script.now N.name) cpus.first cpus.end all.0 × IsGroup (HavePlayed B.notes shared.entry.now.script.now N.name) interrupts.first interrupts.end all.1) }
         { play_cpus(rt, alloc, shared, cpus, interrupts) },
-        || -> Result<Seq<Played<B>>, NoMemory>
+        || -> Result<Seq<Kit<B>>, NoMemory>
             requires { IsSync R.row × IsSync G.row × IsSend B.row × HasJobs B.notes B.spare shared.now.script.now N.name clients }
             ensures { IfOk result (IsGroup (HavePlayed B.notes shared.entry.now.script.now N.name) clients.first clients.end) }
         { play_group(rt, alloc, shared, clients) },

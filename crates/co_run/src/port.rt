@@ -132,7 +132,7 @@ fn ask<N: Name, R: Wait>(
     ensures answer { (result ≡ PortReply.NotHeld) ↔ (covers (option_copied hold.entry) spec.now (Plain op.now) ≡ false) }
 {
     let asked = CallOp::Plain(*op);
-    let held = hold.map(|hold| hold.held());
+    let held = hold.map(Hold::held);
     if !covers(held, spec, &asked) {
         return PortReply::NotHeld;
     }

@@ -9,7 +9,7 @@ ghost use Rattle.co_run.specs.Over.{AreOver, IsActorOver};
 ghost use Rattle.co_run.specs.Ran.{IsRan};
 
 use crate::book::{Book, KeptBook, Notebook, PackedBook};
-use crate::jobs::{Crew, Played, deal_all, take_last};
+use crate::jobs::{Crew, Kit, deal_all, take_last};
 use crate::joins::{both, play_all};
 use crate::longest::longest_of;
 use crate::shared::Shared;
@@ -58,18 +58,14 @@ struct Left<B: Book> {
 }
 
 /// What the next actor brings back goes to the others'.
-fn add<N: Name, B: Book>(
-    script: &Script,
-    all: &mut Brought<B>,
-    one: Played<B>,
-) -> Result<(), NoMemory>
+fn add<N: Name, B: Book>(script: &Script, all: &mut Brought<B>, one: Kit<B>) -> Result<(), NoMemory>
     requires over { AreOver script.now N.name 0 all.old.passes (map B.notes all.old.books) }
     requires one { IsActorOver script.now N.name (length all.old.books) one.passes (B.notes one.book) }
     ensures over { OnOk result (AreOver script.now N.name 0 all.new.passes (map B.notes all.new.books)) }
     ensures count { OnOk result (length all.new.books ≡ length all.old.books + 1) }
 {
     let _ = script;
-    let Played { passes, book } = one;
+    let Kit { passes, book } = one;
     all.passes.push(passes)?;
     all.books.push(book)
 }
@@ -77,28 +73,28 @@ fn add<N: Name, B: Book>(
 /// What the next actors bring back, the first of whom stands last, goes to the others'.
 fn add_group<N: Name, B: Book>(
     script: &Script,
-    all: &mut Brought<B>,
-    group: Seq<Played<B>>,
+    mut all: Brought<B>,
+    group: Seq<Kit<B>>,
     end: u32,
-) -> Result<(), NoMemory>
-    requires over { AreOver script.now N.name 0 all.old.passes (map B.notes all.old.books) }
-    requires group { IsGroup (HavePlayed B.notes script.now N.name) (length all.old.books) end group }
-    ensures over { OnOk result (AreOver script.now N.name 0 all.new.passes (map B.notes all.new.books)) }
-    ensures count { OnOk result (length all.new.books ≡ end) }
+) -> Result<Brought<B>, NoMemory>
+    requires over { AreOver script.now N.name 0 all.passes (map B.notes all.books) }
+    requires group { IsGroup (HavePlayed B.notes script.now N.name) (length all.books) end group }
+    ensures over { IfOk result (λ all. AreOver script.now N.name 0 all.passes (map B.notes all.books)) }
+    ensures count { IfOk result (λ all. length all.books ≡ end) }
 {
     let mut group = group.into_vec();
     for next in all.books.as_slice().len()..end as usize {
         let _ = next;
-        add::<N, B>(script, all, take_last(&mut group))?;
+        add::<N, B>(script, &mut all, take_last(&mut group))?;
     }
-    Ok(())
+    Ok(all)
 }
 
 /// The notes of all actors in the order of their numbers, and their passes.
 fn add_crew<N: Name, B: Book>(
     alloc: Global,
     script: &Script,
-    crew: Crew<Seq<Played<B>>>,
+    crew: Crew<Seq<Kit<B>>>,
 ) -> Result<Brought<B>, NoMemory>
     requires script { IsScript script.now }
     requires crew { IsCrew script.now (HavePlayed B.notes script.now N.name) crew.clients crew.cpus crew.interrupts }
@@ -106,14 +102,13 @@ fn add_crew<N: Name, B: Book>(
     ensures count { IfOk result (λ all. length all.books ≡ actor_count script.now) }
 {
     let clients = script.clients.as_slice().len() as u32;
-    let mut all = Brought {
+    let none = Brought {
         passes: Seq::new(alloc),
         books: Seq::new(alloc),
     };
-    add_group::<N, B>(script, &mut all, crew.clients, clients)?;
-    add_group::<N, B>(script, &mut all, crew.cpus, clients + script.cpus)?;
-    add_group::<N, B>(script, &mut all, crew.interrupts, actor_count(script))?;
-    Ok(all)
+    let of_clients = add_group::<N, B>(script, none, crew.clients, clients)?;
+    let with_cpus = add_group::<N, B>(script, of_clients, crew.cpus, clients + script.cpus)?;
+    add_group::<N, B>(script, with_cpus, crew.interrupts, actor_count(script))
 }
 
 /// Ends the service once all programs are over.

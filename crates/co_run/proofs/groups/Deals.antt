@@ -9,7 +9,7 @@ use Rattle.co_desk.specs.declared.params.Params.{Params}
 use Rattle.co_service.specs.Booted.{AreBooted, booted}
 use Rattle.co_desk.specs.Name.{ServiceName}
 use Rattle.co_desk.specs.Views.{PassesView}
-use Rattle.co_run.specs.declared.jobs.Job.{Job}
+use Rattle.co_run.specs.declared.jobs.Kit.{Kit}
 use Rattle.co_run.specs.Acting.{params_of}
 use Rattle.co_run.specs.Jobs.{AreEmptyBooks, AreLeft, AreUnseen, AreJobs, IsEmpty, IsGroup, IsJob}
 use Rattle.co_run.proofs.merged.RunOfScript.{same_count}
@@ -78,17 +78,17 @@ module _ {B : Type 0} (s : Script) (name : ServiceName) (notes : B → List Note
       }
 
   -- the job of the actor before
-  pub group_dealt : (jobs : List (Job B)) (job : Job B) (first next end : ℕ) → first ≡ next + 1 → IsGroup (AreJobs s name notes spare) first end jobs → IsJob s name next job.passes (notes job.book) (spare job.book) → IsGroup (AreJobs s name notes spare) next end (jobs ++ job ∷ [])
+  pub group_dealt : (jobs : List (Kit B)) (job : Kit B) (first next end : ℕ) → first ≡ next + 1 → IsGroup (AreJobs s name notes spare) first end jobs → IsJob s name next job.passes (notes job.book) (spare job.book) → IsGroup (AreJobs s name notes spare) next end (jobs ++ job ∷ [])
   group_dealt jobs job first next end one group ok = record {
     count = (let long = length-append jobs (job ∷ []) in let count = group.count in omega (arith, count, long, one));
     each = λ k x is a at. at_either k x a at (get_snoc jobs job x k is);
   } where
-    at_either : (k : ℕ) (x : Job B) (a : ℕ) → a + k + 1 ≡ end → (slice_get jobs k ≡ Some x) ⊎ ((k ≡ length jobs) × (x ≡ job)) → IsJob s name a x.passes (notes x.book) (spare x.book)
+    at_either : (k : ℕ) (x : Kit B) (a : ℕ) → a + k + 1 ≡ end → (slice_get jobs k ≡ Some x) ⊎ ((k ≡ length jobs) × (x ≡ job)) → IsJob s name a x.passes (notes x.book) (spare x.book)
     at_either k x a at (inl here) = group.each k x here a at
     at_either k x a at (inr there) =
         let count = group.count in
         let same : next ≡ a = (let is = there.0 in omega (arith, count, at, is, one)) in
-        subst (λ (y : Job B). IsJob s name a y.passes (notes y.book) (spare y.book)) (sym there.1) (subst (λ (b : ℕ). IsJob s name b job.passes (notes job.book) (spare job.book)) same ok)
+        subst (λ (y : Kit B). IsJob s name a y.passes (notes y.book) (spare y.book)) (sym there.1) (subst (λ (b : ℕ). IsJob s name b job.passes (notes job.book) (spare job.book)) same ok)
 
 -- ---- how many actors
 

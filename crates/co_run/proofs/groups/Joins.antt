@@ -8,8 +8,7 @@ use Rattle.co_desk.specs.Name.{ServiceName}
 use Rattle.co_desk.specs.Views.{PassesView}
 use Rattle.co_program.specs.Actors.{client_count, actor_count}
 use Rattle.co_run.specs.declared.jobs.Crew.{Crew}
-use Rattle.co_run.specs.declared.jobs.Job.{Job}
-use Rattle.co_run.specs.declared.jobs.Played.{Played}
+use Rattle.co_run.specs.declared.jobs.Kit.{Kit}
 use Rattle.co_run.specs.Jobs.{AreBounds, AreJobs, HavePlayed, IsCrew, IsGroup, IsJob}
 use Rattle.co_run.specs.Over.{AreOver, IsActorOver}
 use Rattle.co_run.proofs.groups.LastItem.{get_front, get_last, get_snoc}
@@ -48,12 +47,12 @@ group_at Are first from end to xs same also group = subst (λ (b : ℕ). IsGroup
 
 module _ {B : Type 0} (s : Script) (name : ServiceName) (notes : B → List Note) (spare : B → ℕ) where
   -- the first actor's job stands last
-  pub group_first : (xs : List (Job B)) (x : Job B) (first end : ℕ) → IsGroup (AreJobs s name notes spare) first end (xs ++ x ∷ []) → IsJob s name first x.passes (notes x.book) (spare x.book)
+  pub group_first : (xs : List (Kit B)) (x : Kit B) (first end : ℕ) → IsGroup (AreJobs s name notes spare) first end (xs ++ x ∷ []) → IsJob s name first x.passes (notes x.book) (spare x.book)
   group_first xs x first end group =
       let long = length-append xs (x ∷ []) in
       group.each (length xs) x (get_last xs x) first (let count = group.count in omega (arith, count, long))
 
-  pub group_less : (xs : List (Job B)) (x : Job B) (first end : ℕ) → IsGroup (AreJobs s name notes spare) first end (xs ++ x ∷ []) → IsGroup (AreJobs s name notes spare) (first + 1) end xs
+  pub group_less : (xs : List (Kit B)) (x : Kit B) (first end : ℕ) → IsGroup (AreJobs s name notes spare) first end (xs ++ x ∷ []) → IsGroup (AreJobs s name notes spare) (first + 1) end xs
   group_less xs x first end group = record {
     count = (let long = length-append xs (x ∷ []) in let count = group.count in omega (arith, count, long));
     each = λ k job is a at. group.each k job (get_front xs x job k is) a at;
@@ -61,33 +60,33 @@ module _ {B : Type 0} (s : Script) (name : ServiceName) (notes : B → List Note
 
 module _ {B : Type 0} (s : Script) (name : ServiceName) (notes : B → List Note) where
   -- no one is of an empty group
-  pub group_over : (all : List (Played B)) (first end jobs : ℕ) → all ≡ [] → first + jobs ≡ end → end ≤ first → IsGroup (HavePlayed notes s name) first end all
+  pub group_over : (all : List (Kit B)) (first end jobs : ℕ) → all ≡ [] → first + jobs ≡ end → end ≤ first → IsGroup (HavePlayed notes s name) first end all
   group_over all first end jobs none count over =
       subst (IsGroup (HavePlayed notes s name) first end) (sym none)
       (record { count = (let same : first + 0 ≡ end = omega (arith, count, over) in same); each = λ k one is a at. absurd (no_more k one is) }) where
-        no_more : (k : ℕ) (one : Played B) → slice_get [] k ≡ Some one → ⊥
+        no_more : (k : ℕ) (one : Kit B) → slice_get [] k ≡ Some one → ⊥
         no_more k one is = cc
 
   -- one more has played, before these
-  pub group_more : (all : List (Played B)) (one : Played B) (number end : ℕ) → IsGroup (HavePlayed notes s name) (number + 1) end all → IsActorOver s name number one.passes (notes one.book) → IsGroup (HavePlayed notes s name) number end (all ++ one ∷ [])
+  pub group_more : (all : List (Kit B)) (one : Kit B) (number end : ℕ) → IsGroup (HavePlayed notes s name) (number + 1) end all → IsActorOver s name number one.passes (notes one.book) → IsGroup (HavePlayed notes s name) number end (all ++ one ∷ [])
   group_more all one number end group over = record {
     count = (let long = length-append all (one ∷ []) in let count = group.count in omega (arith, count, long));
     each = λ k p is a at. at_either k p a at (get_snoc all one p k is);
   } where
-    at_either : (k : ℕ) (p : Played B) (a : ℕ) → a + k + 1 ≡ end → (slice_get all k ≡ Some p) ⊎ ((k ≡ length all) × (p ≡ one)) → IsActorOver s name a p.passes (notes p.book)
+    at_either : (k : ℕ) (p : Kit B) (a : ℕ) → a + k + 1 ≡ end → (slice_get all k ≡ Some p) ⊎ ((k ≡ length all) × (p ≡ one)) → IsActorOver s name a p.passes (notes p.book)
     at_either k p a at (inl here) = group.each k p here a at
     at_either k p a at (inr there) =
         let count = group.count in
         let same : number ≡ a = (let is = there.0 in omega (arith, count, at, is)) in
-        subst (λ (x : Played B). IsActorOver s name a x.passes (notes x.book)) (sym there.1) (subst (λ (b : ℕ). IsActorOver s name b one.passes (notes one.book)) same over)
+        subst (λ (x : Kit B). IsActorOver s name a x.passes (notes x.book)) (sym there.1) (subst (λ (b : ℕ). IsActorOver s name b one.passes (notes one.book)) same over)
 
   -- the first of those that have played stands last
-  pub played_first : (all : List (Played B)) (one : Played B) (next end : ℕ) → IsGroup (HavePlayed notes s name) next end (all ++ one ∷ []) → IsActorOver s name next one.passes (notes one.book)
+  pub played_first : (all : List (Kit B)) (one : Kit B) (next end : ℕ) → IsGroup (HavePlayed notes s name) next end (all ++ one ∷ []) → IsActorOver s name next one.passes (notes one.book)
   played_first all one next end group =
       let long = length-append all (one ∷ []) in
       group.each (length all) one (get_last all one) next (let count = group.count in omega (arith, count, long))
 
-  pub played_less : (all : List (Played B)) (one : Played B) (next end : ℕ) → IsGroup (HavePlayed notes s name) next end (all ++ one ∷ []) → IsGroup (HavePlayed notes s name) (next + 1) end all
+  pub played_less : (all : List (Kit B)) (one : Kit B) (next end : ℕ) → IsGroup (HavePlayed notes s name) next end (all ++ one ∷ []) → IsGroup (HavePlayed notes s name) (next + 1) end all
   played_less all one next end group = record {
     count = (let long = length-append all (one ∷ []) in let count = group.count in omega (arith, count, long));
     each = λ k p is a at. group.each k p (get_front all one p k is) a at;

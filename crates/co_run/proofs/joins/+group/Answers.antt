@@ -33,3 +33,17 @@ play_group-play_first-rest-requires-clause-later g t c κs within =
 pub play_group-returns-then-first-end : goal.play_group-returns-then-first-end
 play_group-returns-then-first-end g t c =
     group_over c.args.shared.now.script.now g.N.Name.name g.B.Book.notes c.new.result c.args.group.first c.args.group.end (length c.args.group.jobs.items) c.new.ensures c.requires.group.count c.if-first-end.true
+
+-- ---- the join
+
+pub play_first-returns-clause-rest : goal.play_first-returns-clause-rest
+play_first-returns-clause-rest g t c = c.join.ensures.first
+
+pub play_first-returns-clause-one : goal.play_first-returns-clause-one
+play_first-returns-clause-one g t c = c.join.ensures.second
+
+pub play_first-join+arg2-play_group-requires-clause-group : goal.play_first-join+arg2-play_group-requires-clause-group
+play_first-join+arg2-play_group-requires-clause-group g t c κs within = c.requires.3
+
+pub play_first-join+arg2-returns : goal.play_first-join+arg2-returns
+play_first-join+arg2-returns g t c = c.play_group.ensures

@@ -1,5 +1,5 @@
 -- Each group is of the actors that come next.
-use Rattle.std.proofs.Common.{ap, length, map, subst, sym, ◌+◌, ◌∙◌, List, [], ℕ}
+use Rattle.std.proofs.Common.{◌≡◌, ap, length, map, subst, sym, ◌+◌, ◌∙◌, IfOk, List, [], ℕ}
 use Rattle.co_program.specs.Actors.{actor_count, client_count}
 use Rattle.co_desk.specs.Views.{PassesView}
 use Rattle.co_run.specs.Jobs.{HavePlayed}
@@ -22,9 +22,9 @@ add_group-requires-2 g c =
     let s = c.args.script.now in
     let clients = ap length c.as_slice.ensures in
     record {
-      over = c.in_ok-add_group.ensures.over;
+      over = c.in_ok-of_clients.ensures.over;
       group = group_at (HavePlayed g.B.Book.notes s g.N.Name.name) (client_count s) _ (client_count s + s.cpus) _ c.args.crew.cpus
-          (sym (c.in_ok-add_group.ensures.count ∙ clients)) (sym (ap (λ (n : ℕ). n + s.cpus) clients)) c.requires.crew.of_cpus;
+          (sym (c.in_ok-of_clients.ensures.count ∙ clients)) (sym (ap (λ (n : ℕ). n + s.cpus) clients)) c.requires.crew.of_cpus;
     }
 
 pub add_group-requires-3 : goal.add_group-requires-3
@@ -32,13 +32,13 @@ add_group-requires-3 g c =
     let s = c.args.script.now in
     let clients = ap length c.as_slice.ensures in
     record {
-      over = c.in_ok-add_group-2.ensures.over;
+      over = c.in_ok-with_cpus.ensures.over;
       group = group_at (HavePlayed g.B.Book.notes s g.N.Name.name) (client_count s + s.cpus) _ (actor_count s) _ c.args.crew.interrupts
-          (sym (c.in_ok-add_group-2.ensures.count ∙ ap (λ (n : ℕ). n + s.cpus) clients)) (sym c.actor_count.ensures) c.requires.crew.of_interrupts;
+          (sym (c.in_ok-with_cpus.ensures.count ∙ ap (λ (n : ℕ). n + s.cpus) clients)) (sym c.actor_count.ensures) c.requires.crew.of_interrupts;
     }
 
 pub returns-clause-over : goal.returns-clause-over
-returns-clause-over g c = c.in_ok-add_group-3.ensures.over
+returns-clause-over g c = c.add_group-3.ensures.over
 
 pub returns-clause-count : goal.returns-clause-count
-returns-clause-count g c = c.in_ok-add_group-3.ensures.count ∙ c.actor_count.ensures
+returns-clause-count g c = subst (λ (n : ℕ). IfOk c.add_group-3.result (λ all. length all.books ≡ n)) c.actor_count.ensures c.add_group-3.ensures.count

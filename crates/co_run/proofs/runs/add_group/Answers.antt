@@ -13,7 +13,7 @@ loop-next-init g c =
       over = c.requires.over;
       count = same;
       group = subst (λ (n : ℕ). IsGroup have n c.args.end c.into_vec-group.result.items) same
-          (subst (IsGroup have (length c.args.all.now.books) c.args.end) (sym c.into_vec-group.ensures) c.requires.group);
+          (subst (IsGroup have (length c.args.all.books) c.args.end) (sym c.into_vec-group.ensures) c.requires.group);
     }
 
 pub add-requires-clause-one : goal.add-requires-clause-one
