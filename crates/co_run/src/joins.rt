@@ -5,7 +5,6 @@
 ghost use Rattle.std.specs.Prelude.{◌≡◌, ◌+◌, ◌<◌, IfOk, Ok};
 ghost use Rattle.co_run.specs.Jobs.{AreDealt, HasJobs, HavePlayed, IsCrew, IsGroup, IsJob};
 ghost use Rattle.co_run.specs.Over.{IsActorOver};
-ghost use denote.Param.Send.{IsSend, IsSync};
 
 use crate::book::Book;
 use crate::jobs::{Crew, Group, Kit, play_job, take_last};
@@ -83,11 +82,11 @@ fn play_first<B: Book + Send, N: Name + Send + Sync, G: Gate + Sync, R: Threads 
     join(
         rt,
         || -> Result<Seq<Kit<B>>, NoMemory>
-            requires { IsSync R.row × IsSync G.row × IsSend B.row × HasJobs B.notes B.spare shared.now.script.now N.name later }
+            requires { HasJobs B.notes B.spare shared.now.script.now N.name later }
             ensures { IfOk result (IsGroup (HavePlayed B.notes shared.entry.now.script.now N.name) later.first later.end) }
         { play_group(rt, alloc, shared, later) },
         || -> Result<Kit<B>, NoMemory>
-            requires { IsSync R.row × IsSync G.row × IsSend B.row × IsJob shared.now.script.now N.name first job.passes (B.notes job.book) (B.spare job.book) }
+            requires { IsJob shared.now.script.now N.name first job.passes (B.notes job.book) (B.spare job.book) }
             ensures { IfOk result (λ played. IsActorOver shared.entry.now.script.now N.name first played.passes (B.notes played.book)) }
         { play_job(rt, shared, first, job) },
     )
@@ -138,11 +137,11 @@ fn play_cpus<B: Book + Send, N: Name + Send + Sync, G: Gate + Sync, R: Threads +
     let (second, first) = join(
         rt,
         || -> Result<Seq<Kit<B>>, NoMemory>
-            requires { IsSync R.row × IsSync G.row × IsSend B.row × HasJobs B.notes B.spare shared.now.script.now N.name cpus }
+            requires { HasJobs B.notes B.spare shared.now.script.now N.name cpus }
             ensures { IfOk result (IsGroup (HavePlayed B.notes shared.entry.now.script.now N.name) cpus.first cpus.end) }
         { play_group(rt, alloc, shared, cpus) },
         || -> Result<Seq<Kit<B>>, NoMemory>
-            requires { IsSync R.row × IsSync G.row × IsSend B.row × HasJobs B.notes B.spare shared.now.script.now N.name interrupts }
+            requires { HasJobs B.notes B.spare shared.now.script.now N.name interrupts }
             ensures { IfOk result (IsGroup (HavePlayed B.notes shared.entry.now.script.now N.name) interrupts.first interrupts.end) }
         { play_group(rt, alloc, shared, interrupts) },
     );
@@ -172,11 +171,11 @@ pub(crate) fn play_all<
     let (others, first) = join(
         rt,
         || -> Result<(Seq<Kit<B>>, Seq<Kit<B>>), NoMemory>
-            requires { IsSync R.row × IsSync G.row × IsSend B.row × HasJobs B.notes B.spare shared.now.script.now N.name cpus × HasJobs B.notes B.spare shared.now.script.now N.name interrupts }
+            requires { HasJobs B.notes B.spare shared.now.script.now N.name cpus × HasJobs B.notes B.spare shared.now.script.now N.name interrupts }
             ensures { IfOk result (λ all. IsGroup (HavePlayed B.notes shared.entry.now.script.now N.name) cpus.first cpus.end all.0 × IsGroup (HavePlayed B.notes shared.entry.now.script.now N.name) interrupts.first interrupts.end all.1) }
         { play_cpus(rt, alloc, shared, cpus, interrupts) },
         || -> Result<Seq<Kit<B>>, NoMemory>
-            requires { IsSync R.row × IsSync G.row × IsSend B.row × HasJobs B.notes B.spare shared.now.script.now N.name clients }
+            requires { HasJobs B.notes B.spare shared.now.script.now N.name clients }
             ensures { IfOk result (IsGroup (HavePlayed B.notes shared.entry.now.script.now N.name) clients.first clients.end) }
         { play_group(rt, alloc, shared, clients) },
     );

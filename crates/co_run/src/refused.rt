@@ -102,7 +102,7 @@ impl<'a, B: Book> Actor<'a, B> {
         requires { IsAtRest B.notes B.spare shared.now.script.now shared.now.longest N.name self.old }
         ensures { HasLeft shared.now.script.now self.old self.new }
     {
-        drop(self.hold.take());
+        self.hold = None;
         scan_rest(rt, shared, self.number, &mut self.passes, &self.cursor);
     }
 }

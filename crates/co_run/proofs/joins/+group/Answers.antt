@@ -43,7 +43,7 @@ pub play_first-returns-clause-one : goal.play_first-returns-clause-one
 play_first-returns-clause-one g t c = c.join.ensures.second
 
 pub play_first-join+arg2-play_group-requires-clause-group : goal.play_first-join+arg2-play_group-requires-clause-group
-play_first-join+arg2-play_group-requires-clause-group g t c κs within = c.requires.3
+play_first-join+arg2-play_group-requires-clause-group g t c κs within = c.requires
 
 pub play_first-join+arg2-returns : goal.play_first-join+arg2-returns
 play_first-join+arg2-returns g t c = c.play_group.ensures
