@@ -1,0 +1,5 @@
+-- The test itself.
+use Rattle.co_notes.proofs.reading.values.below.Goals as goal
+
+pub returns-then-number-bound-clause-bounded : goal.returns-then-number-bound-clause-bounded
+returns-then-number-bound-clause-bounded c = c.if-number-bound.true
