@@ -14,10 +14,9 @@ use co_text::{Cause, Integer};
 pub fn number_of(number: u128) -> Result<u32, Cause>
     ensures { Gives (λ n. n) result (number_typed number) }
 {
-    if number < 0x1_0000_0000 {
-        Ok(number as u32)
-    } else {
-        Err(Cause::Number)
+    match u32::try_from(number) {
+        Ok(number) => Ok(number),
+        Err(_) => Err(Cause::Number),
     }
 }
 
@@ -25,10 +24,9 @@ pub fn number_of(number: u128) -> Result<u32, Cause>
 pub fn argument_of(number: u128) -> Result<u64, Cause>
     ensures { Gives (λ n. n) result (argument_typed number) }
 {
-    if number < 0x1_0000_0000_0000_0000 {
-        Ok(number as u64)
-    } else {
-        Err(Cause::Number)
+    match u64::try_from(number) {
+        Ok(number) => Ok(number),
+        Err(_) => Err(Cause::Number),
     }
 }
 

@@ -27,16 +27,14 @@ fn print_equals(page: &mut Page) -> Result<(), NoMemory>
 fn print_call_entry(page: &mut Page, op: &Op, reply: &Reply) -> Result<(), NoMemory>
     ensures { OnOk result (page.new ≡ page.old ++ spaced (with_answer (op_words op.now) (reply_words reply.now))) }
 {
-    print_op(page, op)?;
-    print_equals(page)?;
+    print_call_op(page, op)?;
     print_reply(page, reply)
 }
 
 fn print_queue_entry(page: &mut Page, op: &QOp, reply: &QReply) -> Result<(), NoMemory>
     ensures { OnOk result (page.new ≡ page.old ++ spaced (with_answer (queue_words op.now) (answer_words reply.now))) }
 {
-    print_queue_op(page, op)?;
-    print_equals(page)?;
+    print_asked_op(page, op)?;
     print_answer(page, reply)
 }
 

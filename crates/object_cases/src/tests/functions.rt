@@ -324,11 +324,8 @@ fn acts_ask_for_operations(rt: HostRuntime) {
         arg: 7,
         cpu: Where::Here,
     };
-    let Some(tick) = Sbt::new(4294) else {
-        panic!(rt; "4294 is a time");
-    };
     let reset = PlainOp::Reset {
-        due: tick,
+        due: Sbt::new(4294).expect(&rt, "4294 is a time"),
         prec: Sbt::zero(),
         func: 1,
         arg: 7,

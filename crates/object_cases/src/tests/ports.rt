@@ -61,7 +61,7 @@ impl<'a> Port for AlonePort<'a> {
         // The check wants each type that lies deep in a stored call named where it is stored.
         let _next: Option<Next> = None;
         let _reply: Option<Reply> = None;
-        let held = hold.map(|hold| hold.held());
+        let held = hold.map(Hold::held);
         let callouts = &mut *self.callouts;
         let answer = answer_of(&mut callouts[i as usize], op, held);
         let call = call_of(i, op, &answer);

@@ -1,6 +1,7 @@
 use Rattle.std.proofs.Common.{◌<◌, ◌^◌, ◌∷◌, [], ◌++◌, get_or, length, replicate, ap, sym, subst, ◌∙◌, arith}
 use Rattle.std.specs.Prelude.{ℕ, List}
 use Rattle.std.proofs.lemmas.Option.{slice_get-get_or}
+use Rattle.std.proofs.lemmas.Grind.{common_steps}
 use Rattle.co_print.specs.Order.{place_count, place_index}
 use Rattle.co_report.specs.declared.line.Line.{Line}
 use Rattle.co_order.proofs.Boards.{place_below, place_fits, ranking_all, ranking_more, ranking_none}
@@ -52,3 +53,6 @@ raise-requires c =
     let at = slice_get-get_or lines i c.line-item.result c.loop-line-test.true in
     let p_is = c.place_index-place.ensures ∙ ap (λ (m : Line). place_index s m.place) c.line-item.is in
     omega (arith, p_is, place_below s lines i l c.requires.lines at, c.loop-line.invariant.counted.long)
+
+pub offset_bounds-as_slice-place : goal.offset_bounds-as_slice-place
+offset_bounds-as_slice-place c = grind (arith, common_steps)

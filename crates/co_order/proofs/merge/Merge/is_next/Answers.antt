@@ -1,4 +1,4 @@
-use Rattle.std.proofs.Common.{◌∙◌, ap, arith, length}
+use Rattle.std.proofs.Common.{◌∙◌, ◌<◌, ap, arith, length, rules}
 use Rattle.std.proofs.lemmas.Option.{slice_get_within}
 use Rattle.co_order.proofs.Boards.{actor_below, next_read, place_below, place_fits}
 use Rattle.co_order.proofs.merge.Merge.is_next.Goals as goal
@@ -25,3 +25,18 @@ bounds-as_slice-place_index c = omega (arith, ap length c.as_slice-3.ensures, c.
 
 pub bounds-as_slice-i-2 : goal.bounds-as_slice-i-2
 bounds-as_slice-i-2 c = omega (arith, ap length c.as_slice-4.ensures, slice_get_within c.args.board.now.lines.now c.args.i c.args.line.now c.requires.line, c.requires.board.ranks.long)
+
+pub offset_bounds-as_slice-i : goal.offset_bounds-as_slice-i
+offset_bounds-as_slice-i c =
+    let inside : c.args.i < length c.as_slice.result.now = omega (arith, ap length c.as_slice.ensures, slice_get_within c.args.board.now.lines.now c.args.i c.args.line.now c.requires.line, c.requires.merge.come.long) in
+    search rules
+
+pub offset_bounds-as_slice-place_index : goal.offset_bounds-as_slice-place_index
+offset_bounds-as_slice-place_index c =
+    let inside : c.place_index.result < length c.as_slice-3.result.now = omega (arith, ap length c.as_slice-3.ensures, c.place_index.ensures, place_below c.args.board.now.script.now c.args.board.now.lines.now c.args.i c.args.line.now c.requires.board.lines c.requires.line, c.requires.merge.positions.long) in
+    search rules
+
+pub offset_bounds-as_slice-i-2 : goal.offset_bounds-as_slice-i-2
+offset_bounds-as_slice-i-2 c =
+    let inside : c.args.i < length c.as_slice-4.result.now = omega (arith, ap length c.as_slice-4.ensures, slice_get_within c.args.board.now.lines.now c.args.i c.args.line.now c.requires.line, c.requires.board.ranks.long) in
+    search rules

@@ -1,4 +1,4 @@
-use Rattle.std.proofs.Common.{◌≡◌, ◌<◌, ◌^◌, get_or, ap, sym, subst, ◌∙◌, arith}
+use Rattle.std.proofs.Common.{◌≡◌, ◌<◌, ◌^◌, get_or, length, ap, sym, subst, ◌∙◌, arith, rules}
 use Rattle.std.proofs.lemmas.Option.{get_or_from_slice_get, slice_get_within}
 use Rattle.std.proofs.lemmas.Result.{on_ok_weaker}
 use Rattle.co_program.specs.Actors.{actor_count}
@@ -38,6 +38,11 @@ returns-clause-left c =
 
 pub bounds-board-i : goal.bounds-board-i
 bounds-board-i c = slice_get_within c.args.board.now.lines.now c.args.i c.requires.next.line c.requires.next.stands
+
+pub offset_bounds-board-i : goal.offset_bounds-board-i
+offset_bounds-board-i c =
+    let inside : c.args.i < length c.args.board.now.lines.now = slice_get_within c.args.board.now.lines.now c.args.i c.requires.next.line c.requires.next.stands in
+    search rules
 
 pub raise-requires : goal.raise-requires
 raise-requires c =
