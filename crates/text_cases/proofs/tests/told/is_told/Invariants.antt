@@ -1,4 +1,4 @@
-use Rattle.text_cases.proofs.tests.told.text_told.Given as goal
+use Rattle.text_cases.proofs.tests.told.is_told.Given as goal
 
-abbrev pub ghosts-report_told : goal.ghosts-report_told
-ghosts-report_told g a = record { script = a.script.now }
+abbrev pub ghosts-is_report : goal.ghosts-is_report
+ghosts-is_report g a = record { script = a.script.now }
