@@ -10,6 +10,7 @@ use std::process::Abort;
 mod beside;
 mod ends;
 mod lines;
+mod notes;
 mod pages;
 mod reports;
 mod scripted;

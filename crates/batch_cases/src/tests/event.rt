@@ -1,4 +1,4 @@
 //! The command `event`.
 mod calls;
 mod long;
-mod texts;
+pub(super) mod texts;

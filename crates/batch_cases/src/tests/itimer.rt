@@ -1,3 +1,3 @@
 //! The command `itimer`.
 mod calls;
-mod texts;
+pub(super) mod texts;

@@ -1,3 +1,3 @@
 //! The command `kq`.
 mod calls;
-mod texts;
+pub(super) mod texts;

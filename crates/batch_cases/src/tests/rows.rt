@@ -1,4 +1,5 @@
 //! Texts of the commands, and what each comes to.
+use super::{event, itimer, kq, sleep};
 use co_batch_text::itimer::run_itimer;
 use co_batch_text::kq::run_kq;
 use co_batch_text::sleep::run_sleep;
@@ -12,18 +13,22 @@ use std::sync::Wait;
 
 /// A command that answers line by line.
 #[derive(Clone, Copy)]
-pub(crate) enum Command {
+enum Command {
     Event,
     Itimer,
     Kq,
     Sleep,
 }
 
-/// A text and its answer.
-pub(crate) type Answered = (&'static str, &'static str);
+/// A text, and its answer or its first bad line with the first cause for which that is bad.
+pub(crate) type Row = (&'static str, Result<&'static str, (u64, Cause)>);
 
-/// A text, its first bad line, and the first cause for which that is bad.
-pub(crate) type Refused = (&'static str, u64, Cause);
+const COMMANDS: &[(Command, &[Row])] = &[
+    (Command::Event, event::texts::TEXTS),
+    (Command::Itimer, itimer::texts::TEXTS),
+    (Command::Kq, kq::texts::TEXTS),
+    (Command::Sleep, sleep::texts::TEXTS),
+];
 
 /// The answer to a text, of what is told with the end of its service.
 fn text_of(ran: Result<(Seq<u8>, Closing), ScriptFault>) -> Result<Seq<u8>, ScriptFault> {
@@ -48,56 +53,38 @@ fn answer_to<R: Wait>(
     }
 }
 
-/// Whether this is the answer.
-fn is_answered(answer: Result<Seq<u8>, ScriptFault>, wanted: &str) -> bool {
+/// Whether a text comes to what it has to.
+pub(super) fn comes_to(
+    answer: Result<Seq<u8>, ScriptFault>,
+    wanted: Result<&str, (u64, Cause)>,
+) -> bool {
     match answer {
         Ok(text) => {
-            let same = text.as_slice() == wanted.as_bytes();
+            let same = matches!(wanted, Ok(wanted) if text.as_slice() == wanted.as_bytes());
             drop(text);
             same
         }
-        Err(_) => false,
-    }
-}
-
-/// Whether a text is refused for this cause, at this line.
-pub(crate) fn is_refused(answer: Result<Seq<u8>, ScriptFault>, line: u64, cause: Cause) -> bool {
-    match answer {
-        Ok(text) => {
-            drop(text);
-            false
-        }
-        Err(fault) => fault == ScriptFault::Bad { line, cause },
+        Err(ScriptFault::Bad { line, cause }) => wanted == Err((line, cause)),
+        Err(ScriptFault::NoMemory) => false,
     }
 }
 
 /// Stops where a text does not come to what it has to, and names it.
-pub(crate) fn is_right<R: Abort>(rt: &R, text: &str, right: bool) {
+pub(super) fn is_right<R: Abort>(rt: &R, text: &str, right: bool) {
     assert!(rt; right, "{text}");
 }
 
-/// Each text is answered as its row says.
-pub(crate) fn are_answered<R: Abort + Wait>(
-    rt: &R,
-    alloc: Global,
-    command: Command,
-    rows: &[Answered],
-) {
+/// Each text comes to what its row says.
+fn are_right<R: Abort + Wait>(rt: &R, alloc: Global, command: Command, rows: &[Row]) {
     for (text, wanted) in rows {
-        let right = is_answered(answer_to(rt, alloc, command, text), wanted);
+        let right = comes_to(answer_to(rt, alloc, command, text), *wanted);
         is_right(rt, text, right);
     }
 }
 
-/// Each text is refused as its row says.
-pub(crate) fn are_refused<R: Abort + Wait>(
-    rt: &R,
-    alloc: Global,
-    command: Command,
-    rows: &[Refused],
-) {
-    for (text, line, cause) in rows {
-        let right = is_refused(answer_to(rt, alloc, command, text), *line, *cause);
-        is_right(rt, text, right);
+#[test]
+fn texts_are_answered_and_bad_lines_named_with_their_first_causes(rt: HostRuntime) {
+    for (command, rows) in COMMANDS {
+        are_right(&rt, rt.alloc(), *command, rows);
     }
 }

@@ -1,7 +1,7 @@
 //! Worked calls.
 ghost use Rattle.std.specs.Prelude.{◌≡◌};
 
-use co_sbt::Sbt;
+use super::halves;
 use co_service::Name;
 use co_single::{Fired, Single, SingleFresh};
 use std::alloc::Global;
@@ -18,9 +18,9 @@ fn play<N: Name, R: Abort + Wait>(rt: &R, alloc: Global, fresh: SingleFresh) -> 
     requires two { fresh.callouts ≡ 2 }
 {
     let mut single = Single::<N>::open(alloc, fresh).expect(rt, "no memory");
-    single.arm(rt, 0, 0, Sbt::from_ticks(3, 2), 7);
-    single.arm(rt, 1, 1, Sbt::from_ticks(1, 2), 8);
-    let count = single.scan(rt, 2, Sbt::from_ticks(2, 2));
+    single.arm(rt, 0, 0, halves(3), 7);
+    single.arm(rt, 1, 1, halves(1), 8);
+    let count = single.scan(rt, 2, halves(2));
     let first = single.fire(rt, 3);
     let second = single.fire(rt, 4);
     single.disarm(rt, 5, 0);

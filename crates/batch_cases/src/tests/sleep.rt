@@ -1,4 +1,4 @@
 //! The command `sleep`.
 mod replies;
-mod texts;
+pub(super) mod texts;
 mod threads;

@@ -53,10 +53,11 @@ pub(super) fn keep_begun<R: Abort>(rt: &R, log: &mut Vec<Note>, taken: Taken)
 
 /// Keeps the note where nothing had come due.
 pub(super) fn keep_nothing<R: Abort>(rt: &R, log: &mut Vec<Note>, taken: Taken) {
-    let Taken::Empty { note } = taken else {
-        panic!(rt; "something had come due");
+    let note = match taken {
+        Taken::Empty { note } => Some(note),
+        Taken::Took { .. } => None,
     };
-    keep(rt, log, note);
+    keep(rt, log, note.expect(rt, "something had come due"));
 }
 
 /// The CPU finds nothing more to service.

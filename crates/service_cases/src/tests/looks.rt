@@ -71,8 +71,8 @@ fn play<N: Name, R: Wait + Abort>(
 
 #[test]
 fn visited_buckets(rt: HostRuntime) {
-    assert!(rt; bucket(1).raw() == 16777216);
-    assert!(rt; bucket(2).raw() == 33554432);
+    let begins = bucket(1).raw() == 16777216 && bucket(2).raw() == 33554432;
     let (fresh, passes) = boot(rt.alloc(), 1, 1, 64, false).expect(&rt, "no memory");
-    assert!(rt; play::<Brand, _>(&rt, rt.alloc(), fresh, passes) == (3, 12));
+    let scanned = play::<Brand, _>(&rt, rt.alloc(), fresh, passes);
+    assert!(rt; begins && scanned == (3, 12));
 }

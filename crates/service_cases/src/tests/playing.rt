@@ -56,33 +56,43 @@ fn notes_of<N: Name, R: Wait + Abort + Sync>(
     log
 }
 
-/// Whether the notes of a scene, on what was booted for it, are as the rows tell.
+/// Stops where the notes of a scene, on what was booted for it, are not as the rows tell, and names it.
 fn is_played<R: Wait + Abort + Sync>(
     rt: &R,
     alloc: Global,
+    name: &str,
     scene: Scene,
     booted: Result<(Fresh, Seq<Passes>), NoMemory>,
     rows: &[Row],
-) -> bool
+)
     requires scene { IfOk booted (λ made. PlaysOn scene made.0.params) }
     requires passes { IfOk booted (λ made. AreBooted made.0.name made.0.params made.1) }
 {
     let (fresh, passes) = booted.expect(rt, "no memory");
     let notes = notes_of::<Brand, _>(rt, alloc, scene, fresh, passes);
-    are(notes.as_slice(), rows)
+    let right = are(notes.as_slice(), rows);
+    drop(notes);
+    assert!(rt; right, "{name}");
 }
 
 #[test]
 fn scenes_are_played(rt: HostRuntime) {
     let alloc = rt.alloc();
     let booted = boot(alloc, 1, 2, 1, false);
-    assert!(rt; is_played(&rt, alloc, Scene::Alone, booted, &alone::NOTES));
+    is_played(&rt, alloc, "alone", Scene::Alone, booted, &alone::NOTES);
     let booted = boot(alloc, 2, 1, 1, true);
-    assert!(rt; is_played(&rt, alloc, Scene::Direct, booted, &direct::NOTES));
+    is_played(&rt, alloc, "direct", Scene::Direct, booted, &direct::NOTES);
     let booted = boot(alloc, 1, 2, 1, false);
-    assert!(rt; is_played(&rt, alloc, Scene::Moved, booted, &moving::NOTES));
+    is_played(&rt, alloc, "moved", Scene::Moved, booted, &moving::NOTES);
     let booted = boot_locked(alloc);
-    assert!(rt; is_played(&rt, alloc, Scene::Waiting, booted, &held::NOTES));
+    is_played(&rt, alloc, "waiting", Scene::Waiting, booted, &held::NOTES);
     let booted = boot(alloc, 1, 1, 1, false);
-    assert!(rt; is_played(&rt, alloc, Scene::InWords, booted, &words::NOTES));
+    is_played(
+        &rt,
+        alloc,
+        "in words",
+        Scene::InWords,
+        booted,
+        &words::NOTES,
+    );
 }

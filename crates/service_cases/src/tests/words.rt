@@ -1,9 +1,11 @@
 //! Calls that tell in few words what they did, and the notes that are made of these.
 ghost use Rattle.std.specs.Prelude.{◌≡◌, ◌<◌, ℕ, false, length};
+ghost use Rattle.co_object.specs.Journal.{scanner};
 ghost use Rattle.co_object.specs.declared.op.CallOp.TheVariants.{Plain};
 ghost use Rattle.co_object.specs.declared.spec.LockUse.TheVariants.{Free};
 ghost use Rattle.co_desk.specs.Call.{NamesCpu};
-ghost use Rattle.co_desk.specs.Params.{spec_at};
+ghost use Rattle.co_desk.specs.Params.{actors_of, spec_at};
+ghost use Rattle.co_desk.specs.Services.{IsFree};
 ghost use Rattle.co_desk.specs.Views.{AreOf};
 ghost use Rattle.co_service.specs.Booted.{AreBooted};
 ghost use Rattle.service_cases.specs.Scenes.{IsScene};
@@ -78,8 +80,30 @@ fn arm<N: Name, R: Wait + Abort>(
     ask(rt, service, log, passes, act, op, reply);
 }
 
-/// The client arms the callout and the CPU serves it: its function is called and returns, and nothing more is there. The client arms it once
-/// more, and takes the arming away.
+/// The CPU serves the callout, which has come due: its function is called and returns, and nothing more is there.
+fn turn<N: Name, R: Wait + Abort>(
+    rt: &R,
+    service: &Service<N>,
+    log: &mut Vec<Note>,
+    passes: &mut Passes,
+)
+    requires cpu { 0 < service.now.cpus }
+    requires passes { AreOf N.name service.now passes.old }
+    requires scanner { passes.old.actor ≡ scanner (actors_of service.now) 0 }
+    requires free { IsFree false passes.old 0 }
+{
+    tick(rt, service, log, passes, 0, seconds(1));
+    let actor = passes.actor();
+    let popped = service.pop(rt, passes, 0, 0, 1, false);
+    keep_begun(rt, log, popped.answer(actor, 0, 0, false));
+    let mut told = Finished::none();
+    service.end_into(rt, passes, 0, 0, false, &mut told);
+    keep_all(rt, log, told.answer(actor, 0).notes);
+    let popped = service.pop(rt, passes, 0, 0, 1, false);
+    assert!(rt; matches!(popped, Popped::Empty { pop: 4 }));
+}
+
+/// The client arms the callout and the CPU serves it. The client arms it once more, and takes the arming away.
 pub(super) fn play<N: Name, R: Wait + Abort>(
     rt: &R,
     service: &Service<N>,
@@ -91,15 +115,7 @@ pub(super) fn play<N: Name, R: Wait + Abort>(
 {
     let (mut client, mut cpu) = leave_two(service, passes);
     arm(rt, service, log, &mut client, 0, seconds(1));
-    tick(rt, service, log, &mut cpu, 0, seconds(1));
-    let actor = cpu.actor();
-    let popped = service.pop(rt, &mut cpu, 0, 0, 1, false);
-    keep_begun(rt, log, popped.answer(actor, 0, 0, false));
-    let mut told = Finished::none();
-    service.end_into(rt, &mut cpu, 0, 0, false, &mut told);
-    keep_all(rt, log, told.answer(actor, 0).notes);
-    let popped = service.pop(rt, &mut cpu, 0, 0, 1, false);
-    assert!(rt; matches!(popped, Popped::Empty { pop: 4 }));
+    turn(rt, service, log, &mut cpu);
     arm(rt, service, log, &mut client, 1, seconds(2));
     ask(rt, service, log, &mut client, 2, PlainOp::Stop, STOPPED);
     drop(client);

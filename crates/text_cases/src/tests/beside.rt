@@ -62,8 +62,8 @@ fn is_read_alike<R: Abort + Threads + Sync>(
         alloc,
         read_script_by_threads(rt, alloc, text.as_slice()),
     );
-    let alike = read.as_slice() == wanted.as_slice() && found == fault && why == fault;
     drop(text);
+    let alike = read.as_slice() == wanted.as_slice() && found == fault && why == fault;
     drop(wanted);
     drop(read);
     alike

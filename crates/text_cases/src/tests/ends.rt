@@ -12,18 +12,18 @@ use std::alloc::Global;
 use std::io::{self, ErrorKind, Read, Write};
 use std::process::Abort;
 
-// Whether a source fails before its end.
-fn fails<S: Source>(alloc: Global, source: &mut S) -> bool {
-    matches!(read_all(alloc, source, 9), Err(ReadEnd::Fault))
-}
-
-// Whether these bytes are read, over the limit or not.
-fn gives<S: Source>(alloc: Global, source: &mut S, limit: usize, bytes: &[u8], over: bool) -> bool
+// Whether these bytes are read up to a limit, and whether the source has more, or else why they are not.
+fn gives<S: Source>(
+    alloc: Global,
+    source: &mut S,
+    limit: usize,
+    wanted: Result<(&[u8], bool), ReadEnd>,
+) -> bool
     requires { limit < 2 ^ 62 }
 {
     match read_all(alloc, source, limit) {
-        Ok(input) => input.over == over && input.bytes.as_slice() == bytes,
-        Err(_) => false,
+        Ok(input) => wanted == Ok((input.bytes.as_slice(), input.over)),
+        Err(end) => wanted == Err(end),
     }
 }
 
@@ -91,9 +91,9 @@ fn is_read<R: Abort>(rt: &R, alloc: Global, row: &Reading) -> bool {
         rt,
         "no memory",
     );
-    let failed = row.fails.is_empty() || fails(alloc, &mut source);
-    let limit = usize::from(row.limit);
-    let right = failed && gives(alloc, &mut source, limit, row.read.as_bytes(), row.over);
+    let failed = row.fails.is_empty() || gives(alloc, &mut source, 9, Err(ReadEnd::Fault));
+    let wanted = Ok((row.read.as_bytes(), row.over));
+    let right = failed && gives(alloc, &mut source, usize::from(row.limit), wanted);
     drop(source);
     right
 }
@@ -123,24 +123,27 @@ fn fails_and_is_full<R: Abort>(rt: &R, alloc: Global) -> bool {
 // Three pieces, of which the second is empty.
 fn three_pieces<R: Abort>(rt: &R, alloc: Global) -> Seq<Seq<u8>> {
     let mut pieces = Seq::new(alloc);
-    for text in ["ab", "", "cd"] {
+    for text in PIECES {
         let piece = Seq::copy_of(alloc, text.as_bytes()).expect(rt, "no memory");
         pieces.push(piece).expect(rt, "no memory");
     }
     pieces
 }
 
+const PIECES: &[&str] = &["ab", "", "cd"];
+
 // Whether the pieces' write ends so into a sink with this room, which then has these bytes.
 fn takes<R: Abort>(
     rt: &R,
     alloc: Global,
-    pieces: &[Seq<u8>],
     room: usize,
     end: Result<(), WriteEnd>,
     held: &[u8],
 ) -> bool {
+    let pieces = three_pieces(rt, alloc);
     let mut sink = MemSink::new(alloc, room, 9, &[]).expect(rt, "no memory");
-    let right = write_pieces(&mut sink, pieces) == end && sink.bytes() == held;
+    let right = write_pieces(&mut sink, pieces.as_slice()) == end && sink.bytes() == held;
+    drop(pieces);
     drop(sink);
     right
 }
@@ -148,11 +151,8 @@ fn takes<R: Abort>(
 #[test]
 fn sinks_take_up_to_a_failure_and_their_room(rt: HostRuntime) {
     let alloc = rt.alloc();
-    let pieces = three_pieces(&rt, alloc);
-    let all = takes(&rt, alloc, pieces.as_slice(), 9, Ok(()), b"abcd");
-    let end = Err(WriteEnd::Stalled);
-    let three = takes(&rt, alloc, pieces.as_slice(), 3, end, b"abc");
-    drop(pieces);
+    let all = takes(&rt, alloc, 9, Ok(()), b"abcd");
+    let three = takes(&rt, alloc, 3, Err(WriteEnd::Stalled), b"abc");
     assert!(rt; all && three && fails_and_is_full(&rt, alloc));
 }
 
@@ -224,24 +224,17 @@ impl Write for Broken {
 
 #[test]
 fn readers_are_sources(rt: HostRuntime) {
-    assert!(rt;
-        gives(
-            rt.alloc(),
-            &mut FileSource::new(b"abc".as_slice()),
-            9,
-            b"abc".as_slice(),
-            false
-        )
-    );
-    assert!(rt; fails(rt.alloc(), &mut FileSource::new(Broken)));
+    let mut source = FileSource::new(b"abc".as_slice());
+    let given = gives(rt.alloc(), &mut source, 9, Ok((b"abc", false)));
+    let mut broken = FileSource::new(Broken);
+    assert!(rt; given && gives(rt.alloc(), &mut broken, 9, Err(ReadEnd::Fault)));
 }
 
 #[test]
 fn writers_are_sinks(rt: HostRuntime) {
     let mut room = [0; 2];
-    let end = write_all(&mut FileSink::new(room.as_mut_slice()), b"abc");
-    assert!(rt; end == Err(WriteEnd::Stalled));
-    assert!(rt; room == [b'a', b'b']);
-    let end = write_all(&mut FileSink::new(Broken), b"abc");
-    assert!(rt; end == Err(WriteEnd::Fault));
+    let full = write_all(&mut FileSink::new(room.as_mut_slice()), b"abc");
+    let broken = write_all(&mut FileSink::new(Broken), b"abc");
+    let ends = [full, broken] == [Err(WriteEnd::Stalled), Err(WriteEnd::Fault)];
+    assert!(rt; ends && room == [b'a', b'b']);
 }

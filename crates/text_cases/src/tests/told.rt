@@ -1,144 +1,77 @@
-//! A worked report whose notes are told one by one.
+//! Notes that are told one by one, as a worked report prints them.
 ghost use Rattle.std.specs.Prelude.{◌≡◌};
 ghost use Rattle.co_program.specs.Scripts.{IsScript};
 
-use super::{is_text, script_of};
+use super::notes::{Callout, Queue, Row, Said, note_of};
+use super::script_of;
 use co_listener::Listener;
-use co_object::{
-    AnyEntry, CallOp, Entry, Note, Op, Place, PlainOp, QEntry, QOp, QReply, Reply, RunOp,
-};
 use co_program::{Script, actor_count};
 use co_report::{SectionsOf, Subject};
-use co_sbt::{Sbt, Seq};
+use co_sbt::Seq;
 use std::alloc::Global;
 use std::marker::Brand;
 use std::process::Abort;
 
 /// Tells these notes, each of its actor.
-fn tell<L: Listener, R: Abort>(rt: &R, listener: &mut L, actors: u32, told: &[(u32, Note)])
+pub(super) fn tell<L: Listener, R: Abort>(rt: &R, listener: &mut L, actors: u32, rows: &[Row])
     requires { actors ≡ L.actors listener.old }
 {
-    for (actor, note) in told {
-        if *actor < actors {
-            listener.write(*actor, note).expect(rt, "no memory");
+    for row in rows {
+        let actor = row.1;
+        if actor < actors {
+            listener.write(actor, &note_of(row)).expect(rt, "no memory");
         }
     }
 }
 
-/// The report of a script after these notes, each with its actor.
-fn report_told<S: Subject, R: Abort>(
+/// Whether a text is these pieces, one behind the other.
+fn is_joined(pieces: &[Seq<u8>], text: &[u8]) -> bool {
+    let mut rest = text;
+    for piece in pieces {
+        match rest.strip_prefix(piece.as_slice()) {
+            Some(behind) => rest = behind,
+            None => return false,
+        }
+    }
+    rest.is_empty()
+}
+
+/// Whether this is the report of a script after these notes.
+fn is_report<S: Subject, R: Abort>(
     rt: &R,
     alloc: Global,
     script: &Script,
-    told: &[(u32, Note)],
-) -> Seq<u8>
+    rows: &[Row],
+    wanted: &[u8],
+) -> bool
     requires sound { IsScript script.now }
     requires subject { script.now ≡ S.script }
 {
     let mut sections = SectionsOf::<S>::new(alloc, script).expect(rt, "no memory");
-    tell(rt, &mut sections, actor_count(script), told);
+    tell(rt, &mut sections, actor_count(script), rows);
     let pieces = sections.pieces(alloc).expect(rt, "no memory");
-    let text = joined(rt, alloc, pieces.as_slice());
+    let right = is_joined(pieces.as_slice(), wanted);
     drop(pieces);
-    text
+    right
 }
 
-/// These pieces, one behind the other.
-fn joined<R: Abort>(rt: &R, alloc: Global, pieces: &[Seq<u8>]) -> Seq<u8> {
-    let mut text = Seq::new(alloc);
-    for piece in pieces {
-        text.extend_from_slice(piece.as_slice())
-            .expect(rt, "no memory");
-    }
-    text
-}
-
-/// The report of a text's script of which these notes were told.
-fn text_told<R: Abort>(rt: &R, alloc: Global, text: &[u8], told: &[(u32, Note)]) -> Seq<u8> {
+/// Whether this is the report of a text's script of which these notes were told.
+fn is_told<R: Abort>(rt: &R, alloc: Global, text: &[u8], rows: &[Row], wanted: &[u8]) -> bool {
     let script = script_of(rt, alloc, text);
-    let report = report_told::<Brand, _>(rt, alloc, &script, told);
+    let right = is_report::<Brand, _>(rt, alloc, &script, rows, wanted);
     drop(script);
-    report
+    right
 }
 
-/// A note of callout 0.
-fn timer(actor: u32, pos: u64, op: Op, reply: Reply) -> (u32, Note) {
-    let entry = Entry {
-        actor,
-        act: 0,
-        op,
-        reply,
-    };
-    let note = Note {
-        place: Place::Timer(0),
-        pos,
-        entry: AnyEntry::Timer(entry),
-    };
-    (actor, note)
-}
-
-/// A note of CPU 0.
-fn cpu(actor: u32, pos: u64, op: QOp, reply: QReply) -> (u32, Note) {
-    let entry = QEntry {
-        actor,
-        act: 0,
-        op,
-        reply,
-    };
-    let note = Note {
-        place: Place::Cpu(0),
-        pos,
-        entry: AnyEntry::Cpu(entry),
-    };
-    (actor, note)
-}
-
-/// A reset of callout 0 to this time.
-fn reset(due: Sbt) -> Op {
-    Op::Call(CallOp::Plain(PlainOp::Reset {
-        due,
-        prec: due,
-        func: 0,
-        arg: 7,
-        cpu: None,
-    }))
-}
-
-/// What is told of the callout's first firing, due at this time.
-fn first_firing(due: Sbt) -> [(u32, Note); 6] {
-    let armed = Reply::Armed {
-        code: 0,
-        n: 0,
-        cpu: 0,
-        off: None,
-    };
-    [
-        timer(0, 0, reset(due), armed),
-        cpu(0, 0, QOp::Insert { i: 0, n: 0, t: due }, QReply::At(due)),
-        cpu(1, 1, QOp::Scan { now: due }, QReply::Count(1)),
-        cpu(
-            1,
-            2,
-            QOp::Pop,
-            QReply::Got {
-                i: 0,
-                n: 0,
-                at: due,
-            },
-        ),
-        timer(
-            1,
-            1,
-            Op::Run(RunOp::Pick {
-                n: 0,
-                cpu: 0,
-                at: due,
-            }),
-            Reply::Go { func: 0, arg: 7 },
-        ),
-        cpu(1, 3, QOp::Free, QReply::Freed),
-    ]
-}
+/// What is told of the first firing of callout 0, due at one second.
+static FIRING: [Row; 6] = [
+    (0, 0, 0, Said::Of(Callout::Armed(1, true, 7, 0, 0, None))),
+    (0, 0, 0, Said::At(0, Queue::Inserted(1))),
+    (1, 1, 0, Said::At(0, Queue::Scanned(1))),
+    (2, 1, 0, Said::At(0, Queue::Popped(1))),
+    (1, 1, 0, Said::Of(Callout::Picked(0, 1, Some(7)))),
+    (3, 1, 0, Said::At(0, Queue::Freed)),
+];
 
 #[test]
 fn notes_are_printed_as_they_are_told(rt: HostRuntime) {
@@ -149,7 +82,13 @@ fn notes_are_printed_as_they_are_told(rt: HostRuntime) {
         reset 0 =u4294967296 f0 a7\ncpu 0\ntick u4294967296\nhistories\ntimer 0\n0 c0/0 reset u4294967296 pr u4294967296 f0 a7 cpu - = armed 0 #0 p0 off -\n\
         2 p0/0 pick #0 p0 u4294967296 = go f0 a7\nwheel 0\n1 c0/0 insert i0 #0 u4294967296 = at u4294967296\n0 p0/0 scan u4294967296 = count 1\n\
         1 p0/0 pop = got i0 #0 u4294967296\n3 p0/0 free = freed\nactor c0\nactor p0\nend\n";
-    let told = first_firing(Sbt::from_ticks(1, 1));
-    let report = text_told(&rt, rt.alloc(), script.as_slice(), told.as_slice());
-    is_text(&rt, report, wanted.as_slice());
+    assert!(rt;
+        is_told(
+            &rt,
+            rt.alloc(),
+            script.as_slice(),
+            &FIRING,
+            wanted.as_slice()
+        )
+    );
 }

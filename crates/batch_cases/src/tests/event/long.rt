@@ -1,5 +1,5 @@
 //! Texts that are too long.
-use crate::tests::rows::{is_refused, is_right};
+use crate::tests::rows::{comes_to, is_right};
 use co_event_text::run_event;
 use co_sbt::Seq;
 use co_text::Cause;
@@ -32,13 +32,13 @@ fn is_last_refused<R: Abort>(rt: &R, alloc: Global, last: &str, cause: Cause) ->
     let text = long_text(rt, alloc, last);
     let answer = run_event(alloc, text.as_slice());
     drop(text);
-    is_refused(answer, 262_147, cause)
+    comes_to(answer, Err((262_147, cause)))
 }
 
 /// Whether a text of a byte too many is refused.
 fn is_size_refused(alloc: Global) -> bool {
     match vec![in alloc; b'\n'; TOO_LONG] {
-        Ok(text) => is_refused(run_event(alloc, text.as_slice()), 0, Cause::Size),
+        Ok(text) => comes_to(run_event(alloc, text.as_slice()), Err((0, Cause::Size))),
         Err(_) => false,
     }
 }

@@ -1,6 +1,7 @@
 //! Worked calls of interval timers.
 ghost use Rattle.std.specs.Prelude.{◌≡◌};
 
+use crate::tests::halves;
 use co_itimer::{Itimers, ItimersFresh, Itimerval};
 use co_sbt::Sbt;
 use co_service::Name;
@@ -8,11 +9,6 @@ use std::alloc::Global;
 use std::marker::Brand;
 use std::process::Abort;
 use std::sync::Wait;
-
-/// The time of `count` halves of a second.
-fn halves(count: i32) -> Sbt {
-    Sbt::from_ticks(count, 2)
-}
 
 /// What a process's timer has to come, in halves of a second.
 fn timer(value: i32, interval: i32) -> Itimerval {

@@ -1,18 +1,13 @@
 //! Worked calls of a kevent list.
 ghost use Rattle.std.specs.Prelude.{◌≡◌};
 
+use crate::tests::halves;
 use co_kq::{Add, Event, Kq, KqFresh, Unit};
-use co_sbt::Sbt;
 use co_service::Name;
 use std::alloc::Global;
 use std::marker::Brand;
 use std::process::Abort;
 use std::sync::Wait;
-
-/// The time of `count` halves of a second.
-fn halves(count: i32) -> Sbt {
-    Sbt::from_ticks(count, 2)
-}
 
 /// A timer of a second and a half, told after two expirations: each answer is as it should be.
 fn counts<N: Name, R: Abort + Wait>(rt: &R, alloc: Global, fresh: KqFresh) -> bool

@@ -1,12 +1,13 @@
 //! Two actors of one history, and of two.
-ghost use Rattle.std.specs.Prelude.{◌≡◌, [], ◌∷◌, IfOk};
+ghost use Rattle.std.specs.Prelude.{◌≡◌, [], ◌∷◌};
 ghost use Rattle.service_cases.specs.Histories.{said_by};
 ghost use Rattle.co_life.specs.Seen.{own};
 ghost use Rattle.co_life.specs.Views.{AreFresh, pass_view};
 
 use co_life::{Closed, Life, Pass, Story};
-use co_sbt::{NoMemory, Seq};
+use co_sbt::Seq;
 use std::alloc::Global;
+use std::process::Abort;
 
 /// Entries (actor, value), in which each value is the number of entries before it.
 struct Counting;
@@ -38,24 +39,24 @@ pub fn both<S: Story>(life: &Life<S>, passes: Seq<Pass<S>>) -> (Pass<S>, Pass<S>
 }
 
 // The writes (0, 0), (1, 1), (0, 2), their positions, and the history after a close that both passes met before.
-fn two_actors(alloc: Global) -> Result<(Closed<Counting>, [u64; 3]), NoMemory>
-    ensures positions { IfOk result (λ r. r.1 ≡ 0 ∷ 1 ∷ 2 ∷ []) }
-    ensures first { IfOk result (λ r. own said_by 0 r.0 ≡ (0, 0) ∷ (0, 2) ∷ []) }
-    ensures second { IfOk result (λ r. own said_by 1 r.0 ≡ (1, 1) ∷ []) }
+fn two_actors<R: Abort>(rt: &R, alloc: Global) -> (Closed<Counting>, [u64; 3])
+    ensures positions { result.1 ≡ 0 ∷ 1 ∷ 2 ∷ [] }
+    ensures first { own said_by 0 result.0 ≡ (0, 0) ∷ (0, 2) ∷ [] }
+    ensures second { own said_by 1 result.0 ≡ (1, 1) ∷ [] }
 {
-    let (life, mut keeper, passes) = Life::<Counting>::new(alloc, 2)?;
+    let (life, mut keeper, passes) = Life::<Counting>::new(alloc, 2).expect(rt, "no memory");
     let (zero, one) = both(&life, passes);
     let (zero, first) = life.write(&mut keeper, zero, (0, 0));
     let (one, second) = life.write(&mut keeper, one, (1, 1));
     let (zero, third) = life.write(&mut keeper, zero, (0, 2));
-    let _zero = life.meet(&mut keeper, zero);
-    let _one = life.meet(&mut keeper, one);
-    Ok((life.close(keeper), [first, second, third]))
+    life.meet(&mut keeper, zero);
+    life.meet(&mut keeper, one);
+    (life.close(keeper), [first, second, third])
 }
 
 #[test]
 fn entries_have_their_positions(rt: HostRuntime) {
-    let (closed, positions) = two_actors(rt.alloc()).expect(&rt, "no memory");
+    let (closed, positions) = two_actors(&rt, rt.alloc());
     drop(closed);
     assert!(rt; positions == [0, 1, 2]);
 }

@@ -1,5 +1,5 @@
 //! Two threads write through one keeper behind a lock.
-ghost use Rattle.std.specs.Prelude.{◌≡◌, ◌<◌, [], ◌∷◌, ◌++◌, IfOk};
+ghost use Rattle.std.specs.Prelude.{◌≡◌, ◌<◌, [], ◌∷◌, ◌++◌};
 ghost use Rattle.std.specs.List.{All};
 ghost use Rattle.service_cases.specs.Histories.{said_by, numbered};
 ghost use Rattle.co_life.specs.Seen.{own};
@@ -8,9 +8,9 @@ ghost use denote.Param.Send.{IsSync};
 
 use super::actors::both;
 use co_life::{Closed, Keeper, Life, Pass, Story};
-use co_sbt::NoMemory;
 use std::alloc::Global;
 use std::marker::{Brand, PhantomData};
+use std::process::Abort;
 use std::sync::{Mutex, Wait};
 use std::thread::{Threads, join};
 
@@ -131,21 +131,17 @@ fn write_both<N: Name + Send + Sync, R: Threads + Wait + Sync>(
 }
 
 // A history of two threads, each of which wrote as many entries: it has each of them once.
-fn share<R: Threads + Wait + Sync>(
-    rt: &R,
-    alloc: Global,
-    count: u64,
-) -> Result<Closed<Remarks>, NoMemory>
-    ensures zero { IfOk result (λ history. own said_by 0 history ≡ numbered 0 count) }
-    ensures one { IfOk result (λ history. own said_by 1 history ≡ numbered 1 count) }
-    ensures others { IfOk result (All (λ e. said_by e < 2)) }
+fn share<R: Threads + Wait + Sync + Abort>(rt: &R, alloc: Global, count: u64) -> Closed<Remarks>
+    ensures zero { own said_by 0 result ≡ numbered 0 count }
+    ensures one { own said_by 1 result ≡ numbered 1 count }
+    ensures others { All (λ e. said_by e < 2) result }
 {
-    let (life, keeper, passes) = Life::new(alloc, 2)?;
+    let (life, keeper, passes) = Life::new(alloc, 2).expect(rt, "no memory");
     let (zero, one) = both(&life, passes);
-    Ok(write_both::<Brand, R>(rt, life, keeper, zero, one, count))
+    write_both::<Brand, R>(rt, life, keeper, zero, one, count)
 }
 
 #[test]
 fn two_threads_share_a_history(rt: HostRuntime) {
-    drop(share(&rt, rt.alloc(), 1000).expect(&rt, "no memory"));
+    drop(share(&rt, rt.alloc(), 1000));
 }

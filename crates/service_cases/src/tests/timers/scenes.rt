@@ -22,8 +22,8 @@ enum Row {
     /// Calls of the client without a lock, and with that of callout 1.
     Free(&'static [Step]),
     Held(&'static [Step]),
-    /// A CPU's turn at a time in seconds: how many come due, and how its interrupt and the CPU serve them.
-    Turn(u32, i32, u32, Served, Served),
+    /// A CPU's turn at a time in seconds, and what it does.
+    Turn(u32, i32, Turned),
 }
 
 /// What is done, how many functions were called at the end, and under how many holds, and whether one has asked.
@@ -35,15 +35,48 @@ struct Scene {
     asks: bool,
 }
 
-const NONE: Served = Served {
+const NO_CALLS: Served = Served {
     called: 0,
     skipped: 0,
     drained: 0,
 };
 
-const ONE: Served = Served { called: 1, ..NONE };
+const ONE_CALL: Served = Served {
+    called: 1,
+    ..NO_CALLS
+};
 
-const DRAINED: Served = Served { drained: 1, ..ONE };
+/// Nothing comes due.
+const NONE: Turned = Turned {
+    scanned: 0,
+    direct: NO_CALLS,
+    others: NO_CALLS,
+};
+
+/// One comes due, which the CPU serves.
+const ONE: Turned = Turned {
+    scanned: 1,
+    direct: NO_CALLS,
+    others: ONE_CALL,
+};
+
+/// One of each lane.
+const BOTH: Turned = Turned {
+    scanned: 2,
+    direct: ONE_CALL,
+    others: ONE_CALL,
+};
+
+/// One whose function begins a drain.
+const DRAINED: Turned = Turned {
+    scanned: 1,
+    direct: NO_CALLS,
+    others: Served {
+        called: 1,
+        skipped: 0,
+        drained: 1,
+    },
+};
 
 static SCENES: [Scene; 3] = [
     Scene {
@@ -93,11 +126,11 @@ static SCENES: [Scene; 3] = [
                 Step::Arm(2, 1, 0, None, ARMED),
             ]),
             Row::Held(&[Step::Arm(1, 2, 0, None, ARMED)]),
-            Row::Turn(0, 1, 2, ONE, ONE),
-            Row::Turn(0, 1, 0, NONE, NONE),
-            Row::Turn(0, 2, 1, NONE, ONE),
+            Row::Turn(0, 1, BOTH),
+            Row::Turn(0, 1, NONE),
+            Row::Turn(0, 2, ONE),
             Row::Free(&[Step::Arm(0, 3, 0, Some(1), ARMED)]),
-            Row::Turn(1, 3, 1, NONE, ONE),
+            Row::Turn(1, 3, ONE),
         ],
         called: 4,
         held: 1,
@@ -108,7 +141,7 @@ static SCENES: [Scene; 3] = [
         name: "a function asks of its own callout",
         rows: &[
             Row::Free(&[Step::Arm(0, 1, ASKS, None, ARMED)]),
-            Row::Turn(0, 1, 1, NONE, DRAINED),
+            Row::Turn(0, 1, DRAINED),
         ],
         called: 1,
         held: 0,
@@ -133,25 +166,20 @@ impl<'r, 'a, N: Name, R: Wait + Sync> Cast<'r, 'a, N, R> {
         ensures first { self.new.first.others.passes.params ≡ scene }
         ensures second { self.new.second.others.passes.params ≡ scene }
     {
-        match *row {
+        match row {
             Row::Free(steps) => wrong_step(rt, &mut self.client, None, None, steps).is_none(),
             Row::Held(steps) => match timers.lock(rt, 0) {
                 Some(hold) => wrong_step(rt, &mut self.client, Some(&hold), None, steps).is_none(),
                 None => false,
             },
-            Row::Turn(cpu, at, scanned, direct, others) => {
-                let at = seconds(at);
-                let turned = if cpu == 0 {
+            Row::Turn(cpu, at, wanted) => {
+                let at = seconds(*at);
+                let turned = if *cpu == 0 {
                     self.first.turn(rt, at, &mut self.functions)
                 } else {
                     self.second.turn(rt, at, &mut self.functions)
                 };
-                let wanted = Turned {
-                    scanned,
-                    direct,
-                    others,
-                };
-                turned == wanted
+                turned == *wanted
             }
         }
     }

@@ -31,20 +31,20 @@ fn is_answered<N: Name, R: Wait>(
     step: &Step,
 ) -> bool {
     let zero = Sbt::zero();
-    match *step {
+    match step {
         Step::Arm(i, at, func, cpu, wanted) => {
-            client.reset(rt, i, seconds(at), zero, func, 7, cpu, hold) == wanted
+            client.reset(rt, *i, seconds(*at), zero, *func, 7, *cpu, hold) == *wanted
         }
         Step::Schedule(i, at, wanted) => {
-            client.schedule(rt, i, seconds(at), zero, None, hold) == wanted
+            client.schedule(rt, *i, seconds(*at), zero, None, hold) == *wanted
         }
-        Step::Stop(i, wanted) => client.stop(rt, i, hold) == wanted,
+        Step::Stop(i, wanted) => client.stop(rt, *i, hold) == *wanted,
         Step::Drain(i, wanted) => match service {
-            Some(fire) => client.drain_within(rt, i, fire, hold) == wanted,
-            None => client.drain(rt, i, hold) == wanted,
+            Some(fire) => client.drain_within(rt, *i, fire, hold) == *wanted,
+            None => client.drain(rt, *i, hold) == *wanted,
         },
-        Step::AsyncDrain(i, wanted) => client.async_drain(rt, i, 1, hold) == wanted,
-        Step::Retire(i) => client.call(rt, i, &PlainOp::Retire, hold) == Ok(Reply::Done),
+        Step::AsyncDrain(i, wanted) => client.async_drain(rt, *i, 1, hold) == *wanted,
+        Step::Retire(i) => client.call(rt, *i, &PlainOp::Retire, hold) == Ok(Reply::Done),
     }
 }
 

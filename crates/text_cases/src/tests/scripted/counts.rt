@@ -2,13 +2,12 @@
 ghost use Rattle.std.specs.Prelude.{◌≡◌};
 ghost use Rattle.co_program.specs.Scripts.{IsScript};
 
+use crate::tests::notes::{Callout, Row, Said};
+use crate::tests::told::tell;
 use crate::tests::{is_right, script_of};
 use co_gen::{Counts, TallyOf};
-use co_listener::Listener;
-use co_object::{AnyEntry, CallOp, Entry, Note, Op, Place, PlainOp, Reply, RunOp};
 use co_program::{Script, actor_count};
 use co_report::Subject;
-use co_sbt::Sbt;
 use std::alloc::Global;
 use std::marker::Brand;
 use std::process::Abort;
@@ -37,123 +36,12 @@ const NOTHING: Counts = Counts {
     pending: 0,
 };
 
-/// What a client or the CPU does with callout 0, and what it is told.
-enum Step {
-    /// It is armed for this second, with this number.
-    Reset {
-        second: i32,
-        code: i32,
-        n: u64,
-        off: Option<u32>,
-    },
-    /// The service of this arming begins at this second, or waits for its lock.
-    Pick {
-        n: u64,
-        second: i32,
-        waits: bool,
-    },
-    Stop {
-        code: i32,
-        off: Option<u32>,
-    },
-    /// The service of arming 0 has its lock, and finds it cancelled.
-    Skip,
-    End {
-        n: u64,
-    },
-}
-
-fn seconds(ticks: i32) -> Sbt {
-    Sbt::from_ticks(ticks, 1)
-}
-
-/// The operation of a step, and its reply.
-fn told(step: &Step) -> (Op, Reply) {
-    match step {
-        Step::Reset {
-            second,
-            code,
-            n,
-            off,
-        } => (
-            Op::Call(CallOp::Plain(PlainOp::Reset {
-                due: seconds(*second),
-                prec: Sbt::zero(),
-                func: 0,
-                arg: 0,
-                cpu: None,
-            })),
-            Reply::Armed {
-                code: *code,
-                n: *n,
-                cpu: 0,
-                off: *off,
-            },
-        ),
-        Step::Pick { n, second, waits } => {
-            let at = seconds(*second);
-            let reply = if *waits {
-                Reply::Hold
-            } else {
-                Reply::Go { func: 0, arg: 0 }
-            };
-            (Op::Run(RunOp::Pick { n: *n, cpu: 0, at }), reply)
-        }
-        Step::Stop { code, off } => (
-            Op::Call(CallOp::Plain(PlainOp::Stop)),
-            Reply::Stopped {
-                code: *code,
-                off: *off,
-            },
-        ),
-        Step::Skip => (Op::Run(RunOp::Begin { n: 0, cpu: 0 }), Reply::Skip),
-        Step::End { n } => (
-            Op::Run(RunOp::End { n: *n, cpu: 0 }),
-            Reply::Ended {
-                drain: None,
-                next: None,
-                woke: false,
-            },
-        ),
-    }
-}
-
-/// Actor 0's note of a step, at this position of callout 0.
-fn note_of(step: &Step, pos: u64) -> Note {
-    let (op, reply) = told(step);
-    Note {
-        place: Place::Timer(0),
-        pos,
-        entry: AnyEntry::Timer(Entry {
-            actor: 0,
-            act: 0,
-            op,
-            reply,
-        }),
-    }
-}
-
-/// Tells actor 0's history of callout 0.
-fn tell<L: Listener, R: Abort>(rt: &R, listener: &mut L, actors: u32, history: &[Step])
-    requires { actors ≡ L.actors listener.old }
-{
-    let mut pos: u64 = 0;
-    for step in history {
-        if actors > 0 {
-            listener
-                .write(0, &note_of(step, pos))
-                .expect(rt, "no memory");
-        }
-        pos = pos.wrapping_add(1);
-    }
-}
-
 /// The counts of a type's script, whose callout 0 has this history.
 fn counts_told<S: Subject, R: Abort>(
     rt: &R,
     alloc: Global,
     script: &Script,
-    history: &[Step],
+    history: &[Row],
 ) -> Counts
     requires of { script.now ≡ S.script }
     requires script { IsScript script.now }
@@ -164,7 +52,7 @@ fn counts_told<S: Subject, R: Abort>(
 }
 
 /// Whether the callout of a text's script has these counts after this history.
-fn has<R: Abort>(rt: &R, alloc: Global, text: &str, history: &[Step], wanted: &Counts) -> bool {
+fn has<R: Abort>(rt: &R, alloc: Global, text: &str, history: &[Row], wanted: &Counts) -> bool {
     let script = script_of(rt, alloc, text.as_bytes());
     let counts = counts_told::<Brand, _>(rt, alloc, &script, history);
     drop(script);
@@ -172,32 +60,23 @@ fn has<R: Abort>(rt: &R, alloc: Global, text: &str, history: &[Step], wanted: &C
 }
 
 /// The first arming, for the first second.
-const ARMED: Step = Step::Reset {
-    second: 1,
-    code: 0,
-    n: 0,
-    off: None,
-};
+const ARMED: Row = (0, 0, 0, Said::Of(Callout::Armed(1, false, 0, 0, 0, None)));
 
-/// What a case shows, its script, what happens to callout 0, and the counts then.
-const CASES: &[(&str, &str, &[Step], Counts)] = &[
+/// What a case shows, its script, what actor 0 does with callout 0, and the counts then.
+const CASES: &[(&str, &str, &[Row], Counts)] = &[
     (
         "replaced",
         FREE,
         &[
             ARMED,
-            Step::Reset {
-                second: 2,
-                code: 1,
-                n: 1,
-                off: Some(0),
-            },
-            Step::Pick {
-                n: 1,
-                second: 2,
-                waits: false,
-            },
-            Step::End { n: 1 },
+            (
+                1,
+                0,
+                0,
+                Said::Of(Callout::Armed(2, false, 0, 1, 1, Some(0))),
+            ),
+            (2, 0, 0, Said::Of(Callout::Picked(1, 2, Some(0)))),
+            (3, 0, 0, Said::Of(Callout::Ended(1))),
         ],
         Counts {
             notes: 4,
@@ -212,14 +91,10 @@ const CASES: &[(&str, &str, &[Step], Counts)] = &[
         LOCKED,
         &[
             ARMED,
-            Step::Pick {
-                n: 0,
-                second: 1,
-                waits: true,
-            },
-            Step::Stop { code: 1, off: None },
-            Step::Skip,
-            Step::End { n: 0 },
+            (1, 0, 0, Said::Of(Callout::Picked(0, 1, None))),
+            (2, 0, 0, Said::Of(Callout::Stopped(1, None))),
+            (3, 0, 0, Said::Of(Callout::Skipped)),
+            (4, 0, 0, Said::Of(Callout::Ended(0))),
         ],
         Counts {
             notes: 5,
@@ -233,22 +108,10 @@ const CASES: &[(&str, &str, &[Step], Counts)] = &[
         FREE,
         &[
             ARMED,
-            Step::Pick {
-                n: 0,
-                second: 1,
-                waits: false,
-            },
-            Step::Reset {
-                second: 2,
-                code: 0,
-                n: 1,
-                off: None,
-            },
-            Step::Stop {
-                code: 0,
-                off: Some(0),
-            },
-            Step::End { n: 0 },
+            (1, 0, 0, Said::Of(Callout::Picked(0, 1, Some(0)))),
+            (2, 0, 0, Said::Of(Callout::Armed(2, false, 0, 0, 1, None))),
+            (3, 0, 0, Said::Of(Callout::Stopped(0, Some(0)))),
+            (4, 0, 0, Said::Of(Callout::Ended(0))),
         ],
         Counts {
             notes: 5,

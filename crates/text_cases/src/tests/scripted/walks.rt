@@ -28,45 +28,38 @@ impl Listener for Told {
     }
 }
 
-/// How many notes each of four actors has.
-fn counts(lists: &[Seq<Note>]) -> Option<[usize; 4]> {
-    match lists {
-        [first, second, third, fourth] => Some([
-            first.as_slice().len(),
-            second.as_slice().len(),
-            third.as_slice().len(),
-            fourth.as_slice().len(),
-        ]),
-        _ => None,
+/// Whether the lists have so many notes each.
+fn have(lists: &[Seq<Note>], counts: &[usize]) -> bool {
+    for (list, count) in lists.iter().zip(counts) {
+        if list.as_slice().len() != *count {
+            return false;
+        }
     }
+    lists.len() == counts.len()
 }
 
-/// Whether the walk of a text's script makes four lists of so many notes, and tells these notes, of an actor and at a position
-/// each.
+/// Whether the walk of a text's script makes lists of so many notes, and tells these notes, of an actor and at a position each.
 fn walks<R: Abort>(
     rt: &R,
     alloc: Global,
     text: &str,
-    lists: [usize; 4],
+    counts: &[usize],
     notes: &[(u32, u64)],
-) -> [bool; 2] {
+) -> bool {
     let script = script_of(rt, alloc, text.as_bytes());
     let made = run_steps(alloc, &script).expect(rt, "no memory");
+    let has = have(made.as_slice(), counts);
+    drop(made);
     let mut told = Told {
         notes: Seq::new(alloc),
     };
     tell_walk(alloc, &script, &mut told).expect(rt, "no memory");
-    let right = [
-        counts(made.as_slice()) == Some(lists),
-        told.notes.as_slice() == notes,
-    ];
-    drop(made);
     drop(script);
-    right
+    has && told.notes.as_slice() == notes
 }
 
 #[test]
 fn keeps_a_list_for_each_actor_and_tells_as_it_walks(rt: HostRuntime) {
     let notes = [(0, 0), (0, 0), (1, 1), (1, 1)];
-    assert!(rt; walks(&rt, rt.alloc(), IN_TRANSIT, [2, 2, 0, 0], &notes) == [true, true]);
+    assert!(rt; walks(&rt, rt.alloc(), IN_TRANSIT, &[2, 2, 0, 0], &notes));
 }

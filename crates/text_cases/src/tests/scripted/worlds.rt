@@ -3,9 +3,10 @@ ghost use Rattle.std.specs.Prelude.{◌≡◌};
 ghost use Rattle.co_program.specs.Scripts.{IsScript};
 
 use super::IN_TRANSIT;
+use crate::tests::notes::{Callout, Queue, Row, Said, note_of};
 use crate::tests::{is_right, script_of};
 use co_core::{Turn, Why, World};
-use co_object::{AnyEntry, CallOp, Entry, Note, Op, Place, PlainOp, QEntry, QOp, QReply, Reply};
+use co_object::Note;
 use co_program::{Script, actor_count};
 use std::alloc::Global;
 use std::process::Abort;
@@ -76,34 +77,7 @@ struct Run {
     /// How many notes the actor then has.
     count: usize,
     /// One of them, and how many stand before it.
-    note: Option<(usize, Told)>,
-}
-
-/// A note of the actor that is told: of its act of this number, on callout 0.
-enum Told {
-    /// A stop, at this position of the callout's history.
-    Stopped {
-        pos: u64,
-        act: u64,
-        code: i32,
-        off: Option<u32>,
-    },
-    /// A drain's try that has to wait for arming 0.
-    Waits {
-        pos: u64,
-        act: u64,
-    },
-    /// A drain's last try.
-    Drained {
-        pos: u64,
-        act: u64,
-        code: i32,
-    },
-    /// The callout is taken from the queue of CPU 1.
-    Removed {
-        pos: u64,
-        act: u64,
-    },
+    note: Option<(usize, Row)>,
 }
 
 const CANCELLED: [(u32, Turn); 15] = [
@@ -171,15 +145,7 @@ static RUNS: [Run; 9] = [
         turns: &CANCELLED,
         actor: 0,
         count: 3,
-        note: Some((
-            2,
-            Told::Stopped {
-                pos: 2,
-                act: 2,
-                code: 1,
-                off: None,
-            },
-        )),
+        note: Some((2, (2, 0, 2, Said::Of(Callout::Stopped(1, None))))),
     },
     Run {
         name: "the CPU that finds it cancelled",
@@ -203,7 +169,7 @@ static RUNS: [Run; 9] = [
         turns: &MOVING,
         actor: 1,
         count: 2,
-        note: Some((0, Told::Removed { pos: 1, act: 0 })),
+        note: Some((0, (1, 1, 0, Said::At(1, Queue::Removed)))),
     },
     Run {
         name: "stopped where it came to",
@@ -211,15 +177,7 @@ static RUNS: [Run; 9] = [
         turns: &MOVING,
         actor: 1,
         count: 2,
-        note: Some((
-            1,
-            Told::Stopped {
-                pos: 1,
-                act: 0,
-                code: 1,
-                off: Some(1),
-            },
-        )),
+        note: Some((1, (1, 1, 0, Said::Of(Callout::Stopped(1, Some(1)))))),
     },
     Run {
         name: "drain during a service",
@@ -227,7 +185,7 @@ static RUNS: [Run; 9] = [
         turns: &DRAINED,
         actor: 0,
         count: 6,
-        note: Some((2, Told::Waits { pos: 2, act: 1 })),
+        note: Some((2, (2, 0, 1, Said::Of(Callout::Waits)))),
     },
     Run {
         name: "drain against reset",
@@ -235,14 +193,7 @@ static RUNS: [Run; 9] = [
         turns: &DRAINED,
         actor: 0,
         count: 6,
-        note: Some((
-            3,
-            Told::Drained {
-                pos: 5,
-                act: 1,
-                code: -1,
-            },
-        )),
+        note: Some((3, (5, 0, 1, Said::Of(Callout::Drained(-1))))),
     },
     Run {
         name: "drain behind a cancelled call",
@@ -275,61 +226,10 @@ fn goes(script: &Script, world: &mut World, turns: &[(u32, Turn)]) -> bool
     true
 }
 
-/// An actor's entry of callout 0: a call of its act of this number, and the reply.
-fn called(actor: u32, act: u64, op: CallOp, reply: Reply) -> AnyEntry {
-    AnyEntry::Timer(Entry {
-        actor,
-        act,
-        op: Op::Call(op),
-        reply,
-    })
-}
-
-/// Its removal of callout 0 from a queue, in the act of this number.
-fn removed(actor: u32, act: u64) -> AnyEntry {
-    AnyEntry::Cpu(QEntry {
-        actor,
-        act,
-        op: QOp::Remove { i: 0 },
-        reply: QReply::Off,
-    })
-}
-
-/// The note of an actor that is told this.
-fn note_of(actor: u32, told: &Told) -> Note {
-    let drain = CallOp::DrainTry { took: false };
-    let (place, pos, entry) = match *told {
-        Told::Stopped {
-            pos,
-            act,
-            code,
-            off,
-        } => {
-            let reply = Reply::Stopped { code, off };
-            let stop = CallOp::Plain(PlainOp::Stop);
-            (Place::Timer(0), pos, called(actor, act, stop, reply))
-        }
-        Told::Waits { pos, act } => {
-            let reply = Reply::Wait {
-                n: 0,
-                took: false,
-                off: None,
-            };
-            (Place::Timer(0), pos, called(actor, act, drain, reply))
-        }
-        Told::Drained { pos, act, code } => {
-            let reply = Reply::Drained { code, off: None };
-            (Place::Timer(0), pos, called(actor, act, drain, reply))
-        }
-        Told::Removed { pos, act } => (Place::Cpu(1), pos, removed(actor, act)),
-    };
-    Note { place, pos, entry }
-}
-
 /// Whether the actor's note stands in the list behind as many others, where one is wanted.
-fn has(list: &[Note], actor: u32, note: &Option<(usize, Told)>) -> bool {
+fn has(list: &[Note], note: &Option<(usize, Row)>) -> bool {
     match note {
-        Some((at, told)) => list.get(*at) == Some(&note_of(actor, told)),
+        Some((at, row)) => list.get(*at) == Some(&note_of(row)),
         None => true,
     }
 }
@@ -339,7 +239,7 @@ fn is_told(world: &World<'_>, run: &Run) -> bool {
     match world.lists().as_slice().get(run.actor as usize) {
         Some(list) => {
             let notes = list.as_slice();
-            notes.len() == run.count && has(notes, run.actor, &run.note)
+            notes.len() == run.count && has(notes, &run.note)
         }
         None => false,
     }
