@@ -73,6 +73,38 @@ fn append(sections: &mut Seq<Section>, more: Seq<Section>) -> Result<(), NoMemor
     Ok(())
 }
 
+/// The sections that begin in both halves, each as [`read_halves`] reads them.
+// Apart: what the closures ask is told by this function alone.
+#[cycle(halves)]
+fn halves_beside<R: Threads + Sync>(
+    rt: &R,
+    alloc: Global,
+    text: &[u8],
+    frame: &Draft,
+    first: &[Start],
+    second: &[Start],
+    halvings: u32,
+) -> (
+    Result<Seq<Section>, NoMemory>,
+    Result<Seq<Section>, NoMemory>,
+)
+    requires { length text.now ≤ 67108864 }
+    ensures first { IfOk result.0 (All (IsSection text.now frame.now)) }
+    ensures second { IfOk result.1 (All (IsSection text.now frame.now)) }
+{
+    join(
+        rt,
+        || -> Result<Seq<Section>, NoMemory>
+            requires { IsSync R.row × (length text.now ≤ 67108864) }
+            ensures { IfOk result (All (IsSection text.entry.now frame.entry.now)) }
+        { read_halves(rt, alloc, text, frame, first, halvings) },
+        || -> Result<Seq<Section>, NoMemory>
+            requires { IsSync R.row × (length text.now ≤ 67108864) }
+            ensures { IfOk result (All (IsSection text.entry.now frame.entry.now)) }
+        { read_halves(rt, alloc, text, frame, second, halvings) },
+    )
+}
+
 /// The sections that begin here. They are halved this often, and the halves are read beside each other, the first one in
 /// a thread of its own where one can be had.
 #[cycle(halves)]
@@ -91,16 +123,7 @@ fn read_halves<R: Threads + Sync>(
         return read_in_turn(alloc, text, frame, starts);
     }
     let (first, second) = starts.split_at(starts.len() / 2);
-    let left = halvings - 1;
-    let front = || -> Result<Seq<Section>, NoMemory>
-        requires { IsSync R.row × (length text.now ≤ 67108864) }
-        ensures { IfOk result (All (IsSection text.entry.now frame.entry.now)) }
-    { read_halves(rt, alloc, text, frame, first, left) };
-    let back = || -> Result<Seq<Section>, NoMemory>
-        requires { IsSync R.row × (length text.now ≤ 67108864) }
-        ensures { IfOk result (All (IsSection text.entry.now frame.entry.now)) }
-    { read_halves(rt, alloc, text, frame, second, left) };
-    let (before, behind) = join(rt, front, back);
+    let (before, behind) = halves_beside(rt, alloc, text, frame, first, second, halvings - 1);
     let mut sections = before?;
     append(&mut sections, behind?)?;
     Ok(sections)

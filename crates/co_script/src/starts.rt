@@ -88,7 +88,37 @@ fn openings_in(alloc: Global, text: &[u8], from: usize, to: usize) -> Result<Seq
     Ok(openings)
 }
 
-/// The same, of which threads look at the parts of a long one beside each other.
+/// The openings of the two halves of a part, each as [`openings_beside`] finds them.
+// Apart: what the closures ask is told by this function alone.
+#[cycle(parts)]
+fn halves_beside<R: Threads + Sync>(
+    rt: &R,
+    alloc: Global,
+    text: &[u8],
+    from: usize,
+    middle: usize,
+    to: usize,
+    halvings: u32,
+) -> (
+    Result<Seq<Opening>, NoMemory>,
+    Result<Seq<Opening>, NoMemory>,
+)
+    requires first { from ≤ middle }
+    requires second { middle ≤ to }
+    requires within { to ≤ length text.now }
+{
+    join(
+        rt,
+        || -> Result<Seq<Opening>, NoMemory>
+            requires { IsSync R.row × (from ≤ middle) × (middle ≤ length text.now) }
+        { openings_beside(rt, alloc, text, from, middle, halvings) },
+        || -> Result<Seq<Opening>, NoMemory>
+            requires { IsSync R.row × (middle ≤ to) × (to ≤ length text.now) }
+        { openings_beside(rt, alloc, text, middle, to, halvings) },
+    )
+}
+
+/// The openings that begin in a part of a text, in order. Threads look at the halves of a long one beside each other.
 #[cycle(parts)]
 fn openings_beside<R: Threads + Sync>(
     rt: &R,
@@ -105,14 +135,7 @@ fn openings_beside<R: Threads + Sync>(
         return openings_in(alloc, text, from, to);
     }
     let middle = from + (to - from) / 2;
-    let left = halvings - 1;
-    let front = || -> Result<Seq<Opening>, NoMemory>
-        requires { IsSync R.row × (from ≤ middle) × (middle ≤ length text.now) }
-    { openings_beside(rt, alloc, text, from, middle, left) };
-    let back = || -> Result<Seq<Opening>, NoMemory>
-        requires { IsSync R.row × (middle ≤ to) × (to ≤ length text.now) }
-    { openings_beside(rt, alloc, text, middle, to, left) };
-    let (before, behind) = join(rt, front, back);
+    let (before, behind) = halves_beside(rt, alloc, text, from, middle, to, halvings - 1);
     let mut openings = before?;
     openings.extend_from_slice(behind?.as_slice())?;
     Ok(openings)

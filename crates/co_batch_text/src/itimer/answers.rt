@@ -11,6 +11,7 @@ ghost use Rattle.co_batch_text.specs.Itimer.Answers.{value_words, answer_words, 
 ghost use Rattle.co_batch_text.specs.Ends.{AreServed, IsEnd};
 ghost use Rattle.co_batch_text.specs.Itimer.Ends.{EndsRun, IsAnswered, timer_served};
 
+use crate::ending::with_closing;
 use crate::itimer::command::TimerCommand;
 use co_batch::{Batch, print_number, read_batch};
 use co_itimer::{Itimers, ItimersFresh, Itimerval};
@@ -110,8 +111,7 @@ fn answer_on<N: Name, R: Wait>(
 {
     let mut timers = Itimers::<N>::open(alloc, fresh)?;
     let text = text_of(rt, alloc, &mut timers, batch);
-    let closing = timers.close(rt);
-    Ok((text?, closing))
+    with_closing(text, timers.close(rt))
 }
 
 /// Answers a batch by interval timers of its own.

@@ -11,6 +11,7 @@ ghost use Rattle.co_batch_text.specs.Kq.Answers.{add_word, deleted_words, event_
 ghost use Rattle.co_batch_text.specs.Ends.{AreServed, IsEnd};
 ghost use Rattle.co_batch_text.specs.Kq.Ends.{EndsRun, IsAnswered, kq_served};
 
+use crate::ending::with_closing;
 use crate::kq::command::KqCommand;
 use co_batch::{Batch, print_last, print_number, print_word, read_batch};
 use co_kq::{Add, Event, Kq, KqFresh};
@@ -155,8 +156,7 @@ fn answer_on<N: Name, R: Wait>(
 {
     let mut list = Kq::<N>::open(alloc, fresh)?;
     let text = text_of(rt, alloc, &mut list, batch);
-    let closing = list.close(rt);
-    Ok((text?, closing))
+    with_closing(text, list.close(rt))
 }
 
 /// Answers a batch by a kevent list of its own.

@@ -16,6 +16,7 @@ ghost use Rattle.co_batch_text.specs.Sleep.Ends.{EndsRun, sleep_served};
 ghost use Rattle.co_batch_text.specs.Sleep.Matching.{AreObeyed, IsMatched, IsObeyed, answer_of, now_after};
 ghost use Rattle.co_batch_text.specs.Sleep.Running.{AreAnswered, AreCommands, AreFree, AreOpening, IsBooted};
 
+use crate::ending::with_closing;
 use crate::sleep::command::SleepCommand;
 use crate::sleep::said::{Said, print_said};
 use co_batch::{Batch, read_batch};
@@ -138,8 +139,7 @@ fn answer_on<N: SleepName, R: Wait>(
     let mut cpu = passes.into_vec().pop().unwrap();
     let text = text_of(rt, alloc, &queue, &mut cpu, batch);
     back.push(cpu);
-    let closing = queue.close(rt, back.into_seq());
-    Ok((text?, closing))
+    with_closing(text, queue.close(rt, back.into_seq()))
 }
 
 /// Room for the passes of one actor.

@@ -1,5 +1,6 @@
-use Rattle.std.proofs.Common.{ap, length, ◌∙◌, arith}
-use Rattle.std.proofs.lemmas.List.Elements.{All-rest}
+use Rattle.std.proofs.Common.{ap, length, subst, ◌∙◌, arith}
+use Rattle.std.proofs.lemmas.List.Elements.{All-head, All-rest}
+use Rattle.std.specs.List.{All}
 use Rattle.co_script.specs.Beside.{IsSection}
 use Rattle.co_script.proofs.by_threads.read_around.Goals as goal
 
@@ -13,3 +14,8 @@ loop-section-preserved c =
       spot = c.put_section-spot.ensures.spot;
       same = before.same ∙ (c.in_ok-spot.ensures.same ∙ c.put_section-spot.ensures.same);
     }
+
+pub put_section-spot-requires-clause-section : goal.put_section-spot-requires-clause-section
+put_section-spot-requires-clause-section c =
+    let is = IsSection c.args.text.now c.args.frame.now in
+    All-head is c.in-Some.section _ (subst (All is) c.in-Some.ensures.steps.0 c.loop-section.invariant.sections)
