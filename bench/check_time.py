@@ -3,12 +3,15 @@
 
 CRATE is the crate's folder, in which `rt check --jobs 1` has ended. A check saves each module as it is done with it, in out/incremental, so
 the time between two files is about what the later one took. The modules of a function are summed up: `Lts` is the borrow checker's part,
-about a second for each megabyte of its file; `Proof` are the goals, with what is searched; `Tie`, `Code` and `Statement` are made for each
-function; `lemmas` are files of proofs/, and `specs` those of specs/. Take a check from nothing (remove out/incremental first): files of an
+about a second for each megabyte of its file; `Proof` are the goals, with what is searched; `Tie`, `Code`, `Layout`, `Reads` and others are made
+for each function; `lemmas` are files of proofs/, and `specs` those of specs/. Take a check from nothing (remove out/incremental first): files of an
 earlier one stand beside the new ones, and count where they were made. A check that was paused shows the pause at one function."""
 import collections, os, re, sys
 
-OF_FUNCTION = ("Lts", "Proof", "Tie", "Code", "Statement", "Met", "Answers", "Invariants", "Kinds", "Ends")
+OF_FUNCTION = {
+    "Lts", "Proof", "Tie", "Code", "Mir", "Statement", "Met", "Answers", "Invariants", "Kinds", "Ends", "Layout", "Reads", "Named", "Symbol", "Key",
+    "Given", "Goals", "TheLink",
+}
 PAUSE = 60  # seconds between two files that are no work of the check
 
 
@@ -25,10 +28,13 @@ def owner(module):
     parts = re.match(r"Rattle-\w+?-(proofs|specs)\.(.*)$", module)
     if not parts:
         return module, "other"
-    function, _, kind = parts[2].rpartition(".")
     if parts[1] == "specs":
         return parts[2], "specs"
-    return (function, kind) if kind in OF_FUNCTION and function else (parts[2], "lemmas")
+    # (a function's modules may have modules of their own, as Lts has Given)
+    path, kind = parts[2].split("."), "lemmas"
+    while len(path) > 1 and path[-1] in OF_FUNCTION:
+        kind = path.pop()
+    return ".".join(path), kind
 
 
 def main():

@@ -6,7 +6,6 @@ ghost use Rattle.co_object.specs.Lists.{IsWellFormed};
 ghost use Rattle.co_program.specs.Places.{AllHavePlaces};
 ghost use Rattle.co_print.specs.Reports.{lines_between, head_text, report_of};
 ghost use Rattle.co_print.specs.Order.{place_count, IsInOrder};
-ghost use denote.Param.Send.{IsSync};
 
 use crate::counting::count_by_threads;
 use crate::frame::{head_piece, in_frame};
@@ -80,11 +79,11 @@ fn print_halves<R: Threads + Sync>(
     let middle = printing.middle(first, end);
     let left = halvings - 1;
     let front = || -> Result<Seq<Seq<u8>>, NoMemory>
-        requires { IsSync R.row × (part.now.first ≤ first) × (first ≤ middle) × (middle ≤ part.now.end) × (part.now.end ≤ place_count printing.now.script.now) × IsInOrder printing.now.script.now printing.now.lists.now part.now }
+        requires { (part.now.first ≤ first) × (first ≤ middle) × (middle ≤ part.now.end) × (part.now.end ≤ place_count printing.now.script.now) × IsInOrder printing.now.script.now printing.now.lists.now part.now }
         ensures { IfOk result (λ pieces. concat pieces ≡ text (lines_between printing.entry.now.script.now printing.entry.now.lists.now first middle)) }
     { print_halves(rt, alloc, printing, part, first, middle, left) };
     let back = || -> Result<Seq<Seq<u8>>, NoMemory>
-        requires { IsSync R.row × (part.now.first ≤ middle) × (middle ≤ end) × (end ≤ part.now.end) × (part.now.end ≤ place_count printing.now.script.now) × IsInOrder printing.now.script.now printing.now.lists.now part.now }
+        requires { (part.now.first ≤ middle) × (middle ≤ end) × (end ≤ part.now.end) × (part.now.end ≤ place_count printing.now.script.now) × IsInOrder printing.now.script.now printing.now.lists.now part.now }
         ensures { IfOk result (λ pieces. concat pieces ≡ text (lines_between printing.entry.now.script.now printing.entry.now.lists.now middle end)) }
     { print_halves(rt, alloc, printing, part, middle, end, left) };
     let (before, behind) = join(rt, front, back);
@@ -130,11 +129,11 @@ fn print_parts<R: Threads + Sync>(
     let middle = printing.middle(first, end);
     let left = halvings - 1;
     let earlier = || -> Result<Seq<Seq<u8>>, NoMemory>
-        requires { IsSync R.row × (first ≤ middle) × (middle ≤ place_count printing.now.script.now) }
+        requires { (first ≤ middle) × (middle ≤ place_count printing.now.script.now) }
         ensures { IfOk result (λ pieces. concat pieces ≡ text (lines_between printing.entry.now.script.now printing.entry.now.lists.now first middle)) }
     { print_parts(rt, alloc, printing, first, middle, left) };
     let later = || -> Result<Seq<Seq<u8>>, NoMemory>
-        requires { IsSync R.row × (middle ≤ end) × (end ≤ place_count printing.now.script.now) }
+        requires { (middle ≤ end) × (end ≤ place_count printing.now.script.now) }
         ensures { IfOk result (λ pieces. concat pieces ≡ text (lines_between printing.entry.now.script.now printing.entry.now.lists.now middle end)) }
     { print_parts(rt, alloc, printing, middle, end, left) };
     let (before, behind) = join(rt, earlier, later);
@@ -187,7 +186,7 @@ pub fn print_by_threads<R: Threads + Sync>(
         ensures { IfOk result (λ head. head ≡ head_text script.entry.now) }
     { head_piece(alloc, script) };
     let body = || -> Result<Seq<Seq<u8>>, NoMemory>
-        requires { IsSync R.row × AllHavePlaces script.now lists.now × IsWellFormed lists.now }
+        requires { AllHavePlaces script.now lists.now × IsWellFormed lists.now }
         ensures { IfOk result (λ parts. concat parts ≡ text (lines_between script.entry.now lists.entry.now 0 (place_count script.entry.now))) }
     { print_all_places(rt, alloc, script, lists) };
     let (before, places) = join(rt, head, body);

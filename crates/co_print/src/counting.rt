@@ -2,7 +2,6 @@
 ghost use Rattle.std.specs.Prelude.{◌≡◌, ◌<◌, ◌+◌, ◌++◌, ℕ, length, slice_index, OnOk, IfOk};
 ghost use Rattle.co_program.specs.Places.{AllHavePlaces};
 ghost use Rattle.co_print.specs.Order.{AreCounted};
-ghost use denote.Param.Send.{IsSync};
 
 use crate::joining::append;
 use crate::order::{Counted, count_lists, sum};
@@ -60,11 +59,11 @@ fn count_halves<R: Threads + Sync>(
     let (first, second) = lists.split_at(lists.len() / 2);
     let left = halvings - 1;
     let front = || -> Result<Counted, NoMemory>
-        requires { IsSync R.row × AllHavePlaces script.now first.now }
+        requires { AllHavePlaces script.now first.now }
         ensures { IfOk result (λ counted. AreCounted script.entry.now first.entry.now counted) }
     { count_halves(rt, alloc, script, first, left) };
     let back = || -> Result<Counted, NoMemory>
-        requires { IsSync R.row × AllHavePlaces script.now second.now }
+        requires { AllHavePlaces script.now second.now }
         ensures { IfOk result (λ counted. AreCounted script.entry.now second.entry.now counted) }
     { count_halves(rt, alloc, script, second, left) };
     let (before, behind) = join(rt, front, back);

@@ -6,7 +6,6 @@ ghost use Rattle.co_text.specs.declared.ScriptFault.TheVariants as fault;
 ghost use Rattle.co_text.specs.Lines.{lines_of};
 ghost use Rattle.co_script.specs.Beside.{IsSection, IsSpot, left_read};
 ghost use Rattle.co_script.specs.Reading.{lines_script, script_of};
-ghost use denote.Param.Send.{IsSync};
 
 use crate::draft::Draft;
 use crate::reader::{finished, read_to};
@@ -95,11 +94,11 @@ fn halves_beside<R: Threads + Sync>(
     join(
         rt,
         || -> Result<Seq<Section>, NoMemory>
-            requires { IsSync R.row × (length text.now ≤ 67108864) }
+            requires { length text.now ≤ 67108864 }
             ensures { IfOk result (All (IsSection text.entry.now frame.entry.now)) }
         { read_halves(rt, alloc, text, frame, first, halvings) },
         || -> Result<Seq<Section>, NoMemory>
-            requires { IsSync R.row × (length text.now ≤ 67108864) }
+            requires { length text.now ≤ 67108864 }
             ensures { IfOk result (All (IsSection text.entry.now frame.entry.now)) }
         { read_halves(rt, alloc, text, frame, second, halvings) },
     )

@@ -1,6 +1,5 @@
 //! Where the long sections of a text begin.
 ghost use Rattle.std.specs.Prelude.{◌≤◌, length};
-ghost use denote.Param.Send.{IsSync};
 
 use crate::spot::line_at;
 use co_grammar::{Kind, kind_of};
@@ -110,10 +109,10 @@ fn halves_beside<R: Threads + Sync>(
     join(
         rt,
         || -> Result<Seq<Opening>, NoMemory>
-            requires { IsSync R.row × (from ≤ middle) × (middle ≤ length text.now) }
+            requires { (from ≤ middle) × (middle ≤ length text.now) }
         { openings_beside(rt, alloc, text, from, middle, halvings) },
         || -> Result<Seq<Opening>, NoMemory>
-            requires { IsSync R.row × (middle ≤ to) × (to ≤ length text.now) }
+            requires { (middle ≤ to) × (to ≤ length text.now) }
         { openings_beside(rt, alloc, text, middle, to, halvings) },
     )
 }

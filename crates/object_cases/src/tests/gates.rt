@@ -1,5 +1,4 @@
 //! Gates through which two actors go.
-ghost use denote.Param.Send.{IsSync};
 
 use co_hand::{Gate, OpenGate};
 use std::sync::{Barrier, Wait};
@@ -29,12 +28,8 @@ fn pass<G: Gate>(gate: &G, actor: u32, acts: u64) {
 fn pass_both<R: Threads + Wait + Sync>(rt: &R, met: &Barrier) {
     join(
         rt,
-        ||
-            requires { IsSync R.row }
-        { pass(&MeetingGate { rt, met }, 0, 3) },
-        ||
-            requires { IsSync R.row }
-        { pass(&MeetingGate { rt, met }, 1, 3) },
+        || { pass(&MeetingGate { rt, met }, 0, 3) },
+        || { pass(&MeetingGate { rt, met }, 1, 3) },
     );
 }
 

@@ -1,6 +1,5 @@
 //! Client locks, taken by one thread and by two.
 ghost use Rattle.std.specs.Prelude.{◌≡◌, ◌<◌, Some, length, slice_get, ◌∷◌, []};
-ghost use denote.Param.Send.{IsSync};
 
 use super::turns::comes_to;
 use co_lock::{ClientLocks, Held, Hold, LockKind};
@@ -67,10 +66,10 @@ fn counted_by_two<R: Threads + Wait + Sync>(rt: &R, locks: &ClientLocks, id: u32
     join(
         rt,
         ||
-            requires { IsSync R.row × (id < length locks.now) }
+            requires { id < length locks.now }
         { count_up(rt, locks, id, &count) },
         ||
-            requires { IsSync R.row × (id < length locks.now) }
+            requires { id < length locks.now }
         { count_up(rt, locks, id, &count) },
     );
     count.load(Ordering::SeqCst)
@@ -103,10 +102,10 @@ fn read_by_two<R: Threads + Wait + Sync>(rt: &R, locks: &ClientLocks, id: u32) -
     join(
         rt,
         || -> Held
-            requires { IsSync R.row × (slice_get locks.now id ≡ Some LockKind.Rw) }
+            requires { slice_get locks.now id ≡ Some LockKind.Rw }
         { read_beside(rt, locks, id, &met) },
         || -> Held
-            requires { IsSync R.row × (slice_get locks.now id ≡ Some LockKind.Rw) }
+            requires { slice_get locks.now id ≡ Some LockKind.Rw }
         { read_beside(rt, locks, id, &met) },
     )
 }
@@ -170,10 +169,10 @@ fn others_are_free<R: Threads + Wait + Sync>(rt: &R, locks: &ClientLocks, kept: 
     let (free, ()) = join(
         rt,
         || -> bool
-            requires { IsSync R.row × (kept < length locks.now) }
+            requires { kept < length locks.now }
         { keep(rt, locks, kept, &begun, &taken) },
         ||
-            requires { IsSync R.row × (length locks.now ≡ 3) }
+            requires { length locks.now ≡ 3 }
         { take_others(rt, locks, kept, &begun, &taken) },
     );
     free

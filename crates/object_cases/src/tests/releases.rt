@@ -1,6 +1,5 @@
 //! A function that begins after the release of its callout's lock, beside a thread that wants the lock.
 ghost use Rattle.std.specs.Prelude.{◌≡◌, ◌<◌, length};
-ghost use denote.Param.Send.{IsSync};
 ghost use Rattle.object_cases.specs.Tables.{IsWorked};
 
 use super::functions::{again, are, first_fire, running, spec_of, stop, worked_table};
@@ -119,10 +118,10 @@ fn calls_beside_a_lock<R: Threads + Wait + Sync + Abort>(
     let (calls, ()) = join(
         rt,
         || -> Seq<PortCall>
-            requires { IsSync R.row × (0 < length locks.now) }
+            requires { 0 < length locks.now }
         { calls_of_run_unlock(rt, alloc, locks, &needs) },
         ||
-            requires { IsSync R.row × (0 < length locks.now) }
+            requires { 0 < length locks.now }
         { lock_in_calls(rt, locks, &needs) },
     );
     let not_held = [again(PortReply::NotHeld), stop(PortReply::NotHeld)];

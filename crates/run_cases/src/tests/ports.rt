@@ -4,7 +4,6 @@ ghost use Rattle.co_program.specs.Scripts.{IsScript};
 ghost use Rattle.co_service.specs.Booted.{AreBooted};
 ghost use Rattle.co_desk.specs.Views.{AreOf};
 ghost use Rattle.run_cases.specs.Scenes.{two_clients};
-ghost use denote.Param.Send.{IsSync};
 
 use super::running::script_of;
 use super::scene::{SPECS, boot, leave_clients};
@@ -106,10 +105,10 @@ fn calls_of_both<N: Name + Send + Sync, R: Threads + Wait + Sync + Abort>(
     join(
         rt,
         || -> Seq<PortCall>
-            requires { IsSync R.row × IsScript script.now × (length script.now.timers ≡ 2) × (script.now.cpus ≡ 3) × (service.now ≡ two_clients) × AreOf N.name service.now one }
+            requires { IsScript script.now × (length script.now.timers ≡ 2) × (script.now.cpus ≡ 3) × (service.now ≡ two_clients) × AreOf N.name service.now one }
         { calls_of(rt, alloc, script, service, gate, one, 0) },
         || -> Seq<PortCall>
-            requires { IsSync R.row × IsScript script.now × (length script.now.timers ≡ 2) × (script.now.cpus ≡ 3) × (service.now ≡ two_clients) × AreOf N.name service.now other }
+            requires { IsScript script.now × (length script.now.timers ≡ 2) × (script.now.cpus ≡ 3) × (service.now ≡ two_clients) × AreOf N.name service.now other }
         { calls_of(rt, alloc, script, service, gate, other, 1) },
     )
 }

@@ -4,7 +4,6 @@ ghost use Rattle.std.specs.List.{All};
 ghost use Rattle.service_cases.specs.Histories.{said_by, numbered};
 ghost use Rattle.co_life.specs.Seen.{own};
 ghost use Rattle.co_life.specs.Views.{pass_view};
-ghost use denote.Param.Send.{IsSync};
 
 use super::actors::both;
 use co_life::{Closed, Keeper, Life, Pass, Story};
@@ -114,12 +113,12 @@ fn write_both<N: Name + Send + Sync, R: Threads + Wait + Sync>(
     let (zero, one) = join(
         rt,
         || -> Pass<Remarks>
-            requires { IsSync R.row × (N.lives ≡ life ∷ []) × (zero ≡ pass_view life 0 []) }
+            requires { (N.lives ≡ life ∷ []) × (zero ≡ pass_view life 0 []) }
             ensures same { (result.life ≡ life) × (result.actor ≡ 0) }
             ensures own { own said_by 0 result.seen ≡ numbered 0 count }
         { write_all(rt, &life, &desk, 0, count, zero) },
         || -> Pass<Remarks>
-            requires { IsSync R.row × (N.lives ≡ life ∷ []) × (one ≡ pass_view life 1 []) }
+            requires { (N.lives ≡ life ∷ []) × (one ≡ pass_view life 1 []) }
             ensures same { (result.life ≡ life) × (result.actor ≡ 1) }
             ensures own { own said_by 1 result.seen ≡ numbered 1 count }
         { write_all(rt, &life, &desk, 1, count, one) },

@@ -1,7 +1,6 @@
 //! A client and a CPU, each in a thread of its own.
 ghost use Rattle.std.specs.Prelude.{◌≡◌};
 ghost use Rattle.service_cases.specs.Timers.{scene};
-ghost use denote.Param.Send.{IsSync};
 
 use super::functions::{Functions, NOTHING};
 use super::stage::{boot, open, seconds};
@@ -71,11 +70,9 @@ fn both<N: Name + Send + Sync, R: Threads + Wait + Sync>(
     let over = AtomicBool::new(false);
     join(
         rt,
+        || -> u64 { arm_often(rt, client, &over) },
         || -> u64
-            requires { IsSync R.row }
-        { arm_often(rt, client, &over) },
-        || -> u64
-            requires { IsSync R.row × (cpu.others.passes.params ≡ scene) }
+            requires { cpu.others.passes.params ≡ scene }
         { turn_often(rt, cpu, other, &over) },
     )
 }
