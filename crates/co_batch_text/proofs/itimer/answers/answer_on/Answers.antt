@@ -1,5 +1,5 @@
 -- The timers were new; what was answered from there on, and what the end keeps of it.
-use Rattle.std.proofs.Common.{◌≡◌, ◌++◌, [], ℕ, List, length, sym, subst, ap, ◌∙◌, arith}
+use Rattle.std.proofs.Common.{◌≡◌, ◌++◌, [], ℕ, length, sym, subst, ap, ◌∙◌, arith}
 use Rattle.std.specs.Prelude.{slice_index_or}
 use Rattle.std.proofs.lemmas.Result.{IfOk-at_ok, IfOk-weaker}
 use Rattle.std.proofs.lemmas.List.{length-replicate}
