@@ -1,4 +1,4 @@
 -- The jobs of a group of actors, and what they bring back.
 pub mod Deals
-pub mod Joins
+pub mod Seats
 pub mod LastItem

@@ -1,9 +1,10 @@
 -- What the actors of a run begin with, and what they bring back.
-use Rattle.std.specs.Prelude.{◌≡◌, ℕ, ◌+◌, ◌<◌, ◌≤◌, ◌^◌, List, [], Some, length, slice_get}
+use Rattle.std.specs.Prelude.{◌≡◌, ℕ, ◌+◌, ◌<◌, ◌≤◌, ◌^◌, List, [], Some, Result, IfOk, IsOkAnd, length, slice_get}
 use Rattle.co_object.specs.declared.note.Note.{Note}
 use Rattle.co_program.specs.declared.script.Script.{Script}
 use Rattle.co_program.specs.Actors.{actor_count, client_count}
 use Rattle.co_program.specs.Scripts.{IsScript}
+use Rattle.co_sbt.specs.declared.seq.NoMemory.{NoMemory}
 use Rattle.co_desk.specs.declared.params.Params.{Params}
 use Rattle.co_service.specs.Booted.{AreBooted, booted}
 use Rattle.co_service.specs.Fresh.{AreNamed}
@@ -13,7 +14,6 @@ use Rattle.co_run.specs.Acting.{HasLocks, params_of}
 use Rattle.co_run.specs.Over.{IsActorOver}
 use Rattle.co_run.specs.declared.book.KeptBook.{KeptBook}
 use Rattle.co_run.specs.declared.jobs.Crew.{Crew}
-use Rattle.co_run.specs.declared.jobs.Group.{Group}
 use Rattle.co_run.specs.declared.jobs.Kit.{Kit}
 
 -- the script may be run over a service of this name and of these parameters, by actors with these passes
@@ -70,45 +70,29 @@ pub record IsJob (s : Script) (name : ServiceName) (number : ℕ) (q : PassesVie
   pub passes : q ≡ booted name (params_of s) number
   pub empty : IsEmpty notes spare
 
--- the jobs of the actors before number `end`, the last of which comes first
-abbrev pub AreJobs : {B : Type 0} → Script → ServiceName → (B → List Note) → (B → ℕ) → ℕ → List (Kit B) → Type 0
-AreJobs {B} s name notes spare end jobs = (k : ℕ) (job : Kit B) → slice_get jobs k ≡ Some job → (a : ℕ) → a + k + 1 ≡ end → IsJob s name a job.passes (notes job.book) (spare job.book)
+-- nothing was played yet in this seat
+abbrev pub IsSeat : {B E : Type 0} → Script → ServiceName → (B → List Note) → (B → ℕ) → Result (Kit B) E → Type 0
+IsSeat s name notes spare seat = IfOk seat (λ kit. IsJob s name kit.passes.actor kit.passes (notes kit.book) (spare kit.book))
 
--- these actors have played their whole programs
-abbrev pub HavePlayed : {B : Type 0} → (B → List Note) → Script → ServiceName → ℕ → List (Kit B) → Type 0
-HavePlayed {B} notes s name end all = (k : ℕ) (one : Kit B) → slice_get all k ≡ Some one → (a : ℕ) → a + k + 1 ≡ end → IsActorOver s name a one.passes (notes one.book)
+-- the actor of this seat has played its whole program, if it was not refused memory
+abbrev pub HasPlayed : {B E : Type 0} → Script → ServiceName → (B → List Note) → Result (Kit B) E → Result (Kit B) E → Type 0
+HasPlayed s name notes before after = IfOk before (λ kit. IfOk after (λ played. IsActorOver s name kit.passes.actor played.passes (notes played.book)))
+
+-- nothing was played yet in the seats of the actors before number `end`, the last of which comes first
+abbrev pub AreJobs : {B E : Type 0} → Script → ServiceName → (B → List Note) → (B → ℕ) → ℕ → List (Result (Kit B) E) → Type 0
+AreJobs {B} {E} s name notes spare end seats = (k : ℕ) (seat : Result (Kit B) E) → slice_get seats k ≡ Some seat → (a : ℕ) → a + k + 1 ≡ end → IsOkAnd seat (λ kit. IsJob s name a kit.passes (notes kit.book) (spare kit.book))
+
+-- these actors have played their whole programs, those that were not refused memory
+abbrev pub HavePlayed : {B E : Type 0} → (B → List Note) → Script → ServiceName → ℕ → List (Result (Kit B) E) → Type 0
+HavePlayed {B} {E} notes s name end seats = (k : ℕ) (seat : Result (Kit B) E) → slice_get seats k ≡ Some seat → (a : ℕ) → a + k + 1 ≡ end → IfOk seat (λ kit. IsActorOver s name a kit.passes (notes kit.book))
 
 -- these are of the actors from `first` on and before `end`
 pub record IsGroup {X : Type 0} (Are : ℕ → List X → Type 0) (first end : ℕ) (xs : List X) : Type 0 where
   pub count : first + length xs ≡ end
   pub each : Are end xs
 
--- these are the numbers of the clients, of the CPUs and of the interrupts
-pub record AreBounds (s : Script) (first_client end_client first_cpu end_cpu first_interrupt end_interrupt : ℕ) : Type 0 where
-  pub clients : (first_client ≡ 0) × (end_client ≡ client_count s)
-  pub cpus : (first_cpu ≡ client_count s) × (end_cpu ≡ client_count s + s.cpus)
-  pub interrupts : (first_interrupt ≡ client_count s + s.cpus) × (end_interrupt ≡ actor_count s)
-
--- a job for each actor of the group
-abbrev pub HasJobs : {B : Type 0} → (B → List Note) → (B → ℕ) → Script → ServiceName → Group B → Type 0
-HasJobs notes spare s name group = IsGroup (AreJobs s name notes spare) group.first group.end group.jobs.items
-
--- of the actors that had no jobs, `before` of them, the last ones have theirs in this group, and `after` are left
-pub record IsDealt {B : Type 0} (notes : B → List Note) (spare : B → ℕ) (s : Script) (name : ServiceName) (before after count : ℕ) (group : Group B) : Type 0 where
-  pub less : after + count ≡ before
-  pub from : group.first ≡ after
-  pub to : group.end ≡ before
-  pub jobs : HasJobs notes spare s name group
-
--- a job for each client, each CPU and each interrupt
-pub record AreDealt {B : Type 0} (notes : B → List Note) (spare : B → ℕ) (s : Script) (name : ServiceName) (crew : Crew (Group B)) : Type 0 where
-  pub bounds : AreBounds s crew.clients.first crew.clients.end crew.cpus.first crew.cpus.end crew.interrupts.first crew.interrupts.end
-  pub clients : HasJobs notes spare s name crew.clients
-  pub cpus : HasJobs notes spare s name crew.cpus
-  pub interrupts : HasJobs notes spare s name crew.interrupts
-
--- these are of the clients, of the CPUs and of the interrupts
-pub record IsCrew {X : Type 0} (s : Script) (Are : ℕ → List X → Type 0) (clients cpus interrupts : List X) : Type 0 where
-  pub of_clients : IsGroup Are 0 (client_count s) clients
-  pub of_cpus : IsGroup Are (client_count s) (client_count s + s.cpus) cpus
-  pub of_interrupts : IsGroup Are (client_count s + s.cpus) (actor_count s) interrupts
+-- these are the seats of the clients, of the CPUs and of the interrupts
+pub record IsCrew {B : Type 0} (s : Script) (Are : ℕ → List (Result (Kit B) NoMemory) → Type 0) (crew : Crew B) : Type 0 where
+  pub of_clients : IsGroup Are 0 (client_count s) crew.clients.items
+  pub of_cpus : IsGroup Are (client_count s) (client_count s + s.cpus) crew.cpus.items
+  pub of_interrupts : IsGroup Are (client_count s + s.cpus) (actor_count s) crew.interrupts.items

@@ -1,9 +1,9 @@
 //! The job of one actor: its whole program.
-ghost use Rattle.std.specs.Prelude.{◌≡◌, ◌<◌, ◌≤◌, ◌^◌, ◌++◌, ◌∷◌, [], IfOk, length};
+ghost use Rattle.std.specs.Prelude.{◌≡◌, ◌+◌, ◌<◌, ◌≤◌, ◌++◌, ◌∷◌, [], IfOk, length};
 ghost use Rattle.co_program.specs.Scripts.{IsScript};
 ghost use Rattle.co_service.specs.Booted.{AreBooted};
 ghost use Rattle.co_run.specs.Acting.{params_of};
-ghost use Rattle.co_run.specs.Jobs.{AreDealt, AreLeft, HaveBooks, IsDealt, IsJob};
+ghost use Rattle.co_run.specs.Jobs.{AreJobs, AreLeft, HaveBooks, HasPlayed, IsCrew, IsGroup, IsJob, IsSeat};
 ghost use Rattle.co_run.specs.Over.{IsActorOver};
 
 use crate::actor::Actor;
@@ -14,6 +14,7 @@ use co_program::{Script, actor_count};
 use co_sbt::{NoMemory, Seq};
 use co_service::{Name, Passes};
 use std::alloc::Global;
+use std::mem::replace;
 use std::sync::Wait;
 
 /// What an actor begins with, and what it brings back.
@@ -23,13 +24,9 @@ pub(crate) struct Kit<B: Book> {
     pub(crate) book: B,
 }
 
-/// The jobs of the actors from number `first` on and before number `end`, the last of which comes first.
-#[derive(Drop)]
-pub(crate) struct Group<B: Book> {
-    pub(crate) first: u32,
-    pub(crate) end: u32,
-    pub(crate) jobs: Vec<Kit<B>>,
-}
+/// The seat of an actor. There stands what it begins with, and once it has played what it brings back, or that it was refused
+/// memory.
+pub(crate) type Seat<B> = Result<Kit<B>, NoMemory>;
 
 /// Takes the last of these.
 pub(crate) fn take_last<T: Drop>(all: &mut Vec<T>) -> T
@@ -39,58 +36,53 @@ pub(crate) fn take_last<T: Drop>(all: &mut Vec<T>) -> T
     all.pop().unwrap()
 }
 
-/// The jobs of `count` actors, the last ones that have none. `NoMemory` where there is no room for them.
+/// The seats of `count` actors, of the last ones that have none, the last of all first. `NoMemory` where there is no room for
+/// them.
 fn deal<N: Name, B: Book>(
     alloc: Global,
     script: &Script,
     passes: &mut Vec<Passes>,
     books: &mut Vec<B>,
     count: u32,
-) -> Result<Group<B>, NoMemory>
+) -> Result<Vec<Seat<B>>, NoMemory>
     requires enough { count ≤ length passes.old.items }
-    requires fits { length passes.old.items < 2 ^ 32 }
     requires left { AreLeft B.notes B.spare script.now N.name passes.old.items books.old.items }
-    ensures left { IfOk result (λ group. AreLeft B.notes B.spare script.now N.name passes.new.items books.new.items) }
-    ensures dealt { IfOk result (λ group. IsDealt B.notes B.spare script.now N.name (length passes.old.items) (length passes.new.items) count group) }
+    ensures left { IfOk result (λ seats. AreLeft B.notes B.spare script.now N.name passes.new.items books.new.items) }
+    ensures less { IfOk result (λ seats. length passes.new.items + count ≡ length passes.old.items) }
+    ensures dealt { IfOk result (λ seats. IsGroup (AreJobs script.now N.name B.notes B.spare) (length passes.new.items) (length passes.old.items) seats.items) }
 {
     let _ = script;
-    let end = passes.len() as u32;
-    let mut jobs = Seq::new(alloc);
+    let mut seats = Seq::new(alloc);
     for dealt in 0..count {
         let _ = dealt;
-        let job = Kit {
+        let kit = Kit {
             passes: take_last(passes),
             book: take_last(books),
         };
-        jobs.push(job)?;
+        seats.push(Ok(kit))?;
     }
-    Ok(Group {
-        first: passes.len() as u32,
-        end,
-        jobs: jobs.into_vec(),
-    })
+    Ok(seats.into_vec())
 }
 
-/// The actors of a run, by their kinds.
+/// The seats of all actors by their kinds, in each kind those of the last ones first.
 #[derive(Drop)]
-pub(crate) struct Crew<T> {
-    pub(crate) clients: T,
-    pub(crate) cpus: T,
-    pub(crate) interrupts: T,
+pub(crate) struct Crew<B: Book> {
+    pub(crate) clients: Vec<Seat<B>>,
+    pub(crate) cpus: Vec<Seat<B>>,
+    pub(crate) interrupts: Vec<Seat<B>>,
 }
 
-/// The jobs of all actors.
-#[tactic(auto, using(crate::proofs::groups::Deals::booted_first, crate::proofs::groups::Deals::booted_count, crate::proofs::groups::Deals::most_named, crate::proofs::merged::RunOfScript::most_actors))]
+/// A seat for each actor.
 pub(crate) fn deal_all<N: Name, B: Book>(
     alloc: Global,
     script: &Script,
     passes: Seq<Passes>,
     books: Seq<B>,
-) -> Result<Crew<Group<B>>, NoMemory>
+) -> Result<Crew<B>, NoMemory>
     requires script { IsScript script.now }
     requires passes { AreBooted N.name (params_of script.now) passes }
     requires books { HaveBooks B.notes B.spare script.now books }
-    ensures { IfOk result (λ crew. AreDealt B.notes B.spare script.now N.name crew) }
+    ensures { IfOk result (IsCrew script.now (AreJobs script.now N.name B.notes B.spare)) }
 {
     let mut passes = passes.into_vec();
     let mut books = books.into_vec();
@@ -116,7 +108,7 @@ fn played_by<B: Book>(actor: Actor<'_, B>) -> Kit<B>
 }
 
 /// Plays the whole program of the actor of this number.
-pub(crate) fn play_job<B: Book, N: Name, G: Gate, R: Wait + Sync>(
+fn play_job<B: Book, N: Name, G: Gate, R: Wait + Sync>(
     rt: &R,
     shared: &Shared<'_, N, G>,
     number: u32,
@@ -134,5 +126,20 @@ pub(crate) fn play_job<B: Book, N: Name, G: Gate, R: Wait + Sync>(
             drop(played_by(actor));
             Err(refused)
         }
+    }
+}
+
+/// Plays the whole program of the actor of this seat.
+pub(crate) fn play_seat<B: Book, N: Name, G: Gate, R: Wait + Sync>(
+    rt: &R,
+    shared: &Shared<'_, N, G>,
+    seat: &mut Seat<B>,
+)
+    requires { IsSeat shared.now.script.now N.name B.notes B.spare seat.old }
+    ensures { HasPlayed shared.now.script.now N.name B.notes seat.old seat.new }
+{
+    if let Ok(kit) = replace(seat, Err(NoMemory {})) {
+        let number = kit.passes.actor();
+        *seat = play_job(rt, shared, number, kit);
     }
 }

@@ -7,7 +7,6 @@ mod book;
 mod by_itself;
 mod calls;
 mod jobs;
-mod joins;
 mod laws;
 mod longest;
 mod playing;
@@ -19,6 +18,7 @@ mod scans;
 mod services;
 mod shared;
 mod stepping;
+mod threads;
 
 pub use book::{KeptBook, Notebook, RoomBook, ShortBook};
 pub use laws::fitting_scripts_can_run;

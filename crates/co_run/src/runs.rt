@@ -9,10 +9,10 @@ ghost use Rattle.co_run.specs.Over.{AreOver, IsActorOver};
 ghost use Rattle.co_run.specs.Ran.{IsRan};
 
 use crate::book::{Book, KeptBook, Notebook, PackedBook};
-use crate::jobs::{Crew, Kit, deal_all, take_last};
-use crate::joins::{both, play_all};
+use crate::jobs::{Crew, Kit, Seat, deal_all, take_last};
 use crate::longest::longest_of;
 use crate::shared::Shared;
+use crate::threads::play_all;
 use co_hand::Gate;
 use co_lock::ClientLocks;
 use co_object::{Lists, Note};
@@ -74,18 +74,18 @@ fn add<N: Name, B: Book>(script: &Script, all: &mut Brought<B>, one: Kit<B>) -> 
 fn add_group<N: Name, B: Book>(
     script: &Script,
     mut all: Brought<B>,
-    group: Seq<Kit<B>>,
+    mut group: Vec<Seat<B>>,
     end: u32,
 ) -> Result<Brought<B>, NoMemory>
     requires over { AreOver script.now N.name 0 all.passes (map B.notes all.books) }
-    requires group { IsGroup (HavePlayed B.notes script.now N.name) (length all.books) end group }
+    requires group { IsGroup (HavePlayed B.notes script.now N.name) (length all.books) end group.items }
     ensures over { IfOk result (λ all. AreOver script.now N.name 0 all.passes (map B.notes all.books)) }
     ensures count { IfOk result (λ all. length all.books ≡ end) }
 {
-    let mut group = group.into_vec();
     for next in all.books.as_slice().len()..end as usize {
         let _ = next;
-        add::<N, B>(script, &mut all, take_last(&mut group))?;
+        let one = take_last(&mut group)?;
+        add::<N, B>(script, &mut all, one)?;
     }
     Ok(all)
 }
@@ -94,10 +94,10 @@ fn add_group<N: Name, B: Book>(
 fn add_crew<N: Name, B: Book>(
     alloc: Global,
     script: &Script,
-    crew: Crew<Seq<Kit<B>>>,
+    crew: Crew<B>,
 ) -> Result<Brought<B>, NoMemory>
     requires script { IsScript script.now }
-    requires crew { IsCrew script.now (HavePlayed B.notes script.now N.name) crew.clients crew.cpus crew.interrupts }
+    requires crew { IsCrew script.now (HavePlayed B.notes script.now N.name) crew }
     ensures over { IfOk result (λ all. AreOver script.now N.name 0 all.passes (map B.notes all.books)) }
     ensures count { IfOk result (λ all. length all.books ≡ actor_count script.now) }
 {
@@ -133,7 +133,7 @@ fn finish<N: Name, B: Book, R: Wait>(
     }
 }
 
-/// Plays the programs of all actors over an open service, each in a branch of nested joins.
+/// Plays the programs of all actors over an open service, each in a thread of its own where one can be had.
 fn play_books<N: Name + Send + Sync, G: Gate + Sync, B: Book + Send, R: Threads + Wait + Sync>(
     rt: &R,
     alloc: Global,
@@ -148,9 +148,8 @@ fn play_books<N: Name + Send + Sync, G: Gate + Sync, B: Book + Send, R: Threads 
     ensures over { IfOk result (λ all. AreOver script.now N.name 0 all.passes (map B.notes all.books)) }
     ensures count { IfOk result (λ all. length all.books ≡ actor_count script.now) }
 {
-    let locks = ClientLocks::new(alloc, script.locks.as_slice());
-    let groups = deal_all::<N, B>(alloc, script, passes, books);
-    let (locks, groups) = both(locks, groups)?;
+    let crew = deal_all::<N, B>(alloc, script, passes, books)?;
+    let locks = ClientLocks::new(alloc, script.locks.as_slice())?;
     let shared = Shared {
         script,
         service,
@@ -158,7 +157,7 @@ fn play_books<N: Name + Send + Sync, G: Gate + Sync, B: Book + Send, R: Threads 
         gate,
         longest: longest_of(script),
     };
-    let crew = play_all(rt, alloc, &shared, groups);
+    let crew = play_all(rt, &shared, crew);
     drop(locks);
     add_crew::<N, B>(alloc, script, crew?)
 }
@@ -242,7 +241,7 @@ fn packed(alloc: Global, script: &Script, left: Left<PackedBook>) -> Result<Pack
     }
 }
 
-/// Runs a script on threads over an open service, each actor in a branch of nested joins, and ends the service. Each actor
+/// Runs a script on threads over an open service, each actor in a thread of its own where one can be had, and ends the service. Each actor
 /// notes into one of the books, in the order of the actors' numbers; all are empty.
 ///
 /// The passes are those of the service's boot, by the script's version, CPUs, buckets, number of clients and callouts; they

@@ -1,6 +1,6 @@
 -- The jobs of the actors: passes that have seen nothing, and empty books, one after the other.
 use Rattle.std.proofs.Common.{◌≡◌, ℕ, zero, suc, ◌+◌, ◌<◌, ◌≤◌, ◌*◌, ◌==◌, ◌⊎◌, inl, inr, Bool, true, false, cond, List, [], ◌∷◌, ◌++◌, length, ap, sym, subst, ◌∙◌, arith, length-append}
-use Rattle.std.specs.Prelude.{Some, slice_get}
+use Rattle.std.specs.Prelude.{Ok, Result, Some, IsOkAnd, slice_get}
 use Rattle.co_object.specs.declared.note.Note.{Note}
 use Rattle.co_program.specs.declared.script.Script.{Script}
 use Rattle.co_program.specs.Actors.{actor_count, client_count}
@@ -77,18 +77,18 @@ module _ {B : Type 0} (s : Script) (name : ServiceName) (notes : B → List Note
         empty = empty_last notes spare books book (subst (AreEmptyBooks notes spare) books_are left.empty);
       }
 
-  -- the job of the actor before
-  pub group_dealt : (jobs : List (Kit B)) (job : Kit B) (first next end : ℕ) → first ≡ next + 1 → IsGroup (AreJobs s name notes spare) first end jobs → IsJob s name next job.passes (notes job.book) (spare job.book) → IsGroup (AreJobs s name notes spare) next end (jobs ++ job ∷ [])
-  group_dealt jobs job first next end one group ok = record {
-    count = (let long = length-append jobs (job ∷ []) in let count = group.count in omega (arith, count, long, one));
-    each = λ k x is a at. at_either k x a at (get_snoc jobs job x k is);
+  -- the seat of the actor before
+  pub group_dealt : {E : Type 0} (seats : List (Result (Kit B) E)) (kit : Kit B) (first next end : ℕ) → first ≡ next + 1 → IsGroup (AreJobs s name notes spare) first end seats → IsJob s name next kit.passes (notes kit.book) (spare kit.book) → IsGroup (AreJobs s name notes spare) next end (seats ++ Ok kit ∷ [])
+  group_dealt {E} seats kit first next end one group ok = record {
+    count = (let long = length-append seats (Ok kit ∷ []) in let count = group.count in omega (arith, count, long, one));
+    each = λ k x is a at. at_either k x a at (get_snoc seats (Ok kit) x k is);
   } where
-    at_either : (k : ℕ) (x : Kit B) (a : ℕ) → a + k + 1 ≡ end → (slice_get jobs k ≡ Some x) ⊎ ((k ≡ length jobs) × (x ≡ job)) → IsJob s name a x.passes (notes x.book) (spare x.book)
+    at_either : (k : ℕ) (x : Result (Kit B) E) (a : ℕ) → a + k + 1 ≡ end → (slice_get seats k ≡ Some x) ⊎ ((k ≡ length seats) × (x ≡ Ok kit)) → IsOkAnd x (λ y. IsJob s name a y.passes (notes y.book) (spare y.book))
     at_either k x a at (inl here) = group.each k x here a at
     at_either k x a at (inr there) =
         let count = group.count in
         let same : next ≡ a = (let is = there.0 in omega (arith, count, at, is, one)) in
-        subst (λ (y : Kit B). IsJob s name a y.passes (notes y.book) (spare y.book)) (sym there.1) (subst (λ (b : ℕ). IsJob s name b job.passes (notes job.book) (spare job.book)) same ok)
+        subst (λ (r : Result (Kit B) E). IsOkAnd r (λ y. IsJob s name a y.passes (notes y.book) (spare y.book))) (sym there.1) (subst (λ (b : ℕ). IsJob s name b kit.passes (notes kit.book) (spare kit.book)) same ok)
 
 -- ---- how many actors
 

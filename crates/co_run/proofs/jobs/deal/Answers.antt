@@ -2,7 +2,6 @@
 use Rattle.std.proofs.Common.{◌≡◌, ◌+◌, ◌∷◌, [], ◌∙◌, ap, length, length-append, subst, sym, arith}
 use Rattle.co_run.specs.Jobs.{AreJobs, IsGroup}
 use Rattle.co_run.proofs.groups.Deals.{group_dealt, left_job, left_less}
-use Rattle.co_run.proofs.groups.Joins.{group_at}
 use Rattle.co_run.proofs.jobs.deal.Goals as goal
 
 pub loop-dealt-preserved : goal.loop-dealt-preserved
@@ -19,7 +18,7 @@ loop-dealt-preserved g c =
       less = (let before = c.loop-dealt.invariant.less in omega (arith, one, before));
       left = left_less s name notes spare _ passes c.take_last.result _ c.take_last-in-loop-dealt.new.all.items c.take_last-in-loop-dealt.result c.take_last.ensures c.take_last-in-loop-dealt.ensures left;
       group = subst (IsGroup Are (length passes) (length c.args.passes.now.items)) (sym c.in_ok-push.ensures.ok)
-          (group_dealt s name notes spare c.loop-dealt.jobs _ (length c.loop-dealt.passes.items) (length passes) (length c.args.passes.now.items) one c.loop-dealt.invariant.group
+          (group_dealt s name notes spare c.loop-dealt.seats _ (length c.loop-dealt.passes.items) (length passes) (length c.args.passes.now.items) one c.loop-dealt.invariant.group
           (left_job s name notes spare _ passes c.take_last.result _ c.take_last-in-loop-dealt.new.all.items c.take_last-in-loop-dealt.result c.take_last.ensures c.take_last-in-loop-dealt.ensures left));
     }
 
@@ -27,15 +26,8 @@ pub returns : goal.returns
 returns g c =
     let Are = AreJobs c.args.script.now g.N.Name.name g.B.Book.notes g.B.Book.spare in
     let less = c.loop-dealt.invariant.less in
-    let from : c.len.result ≡ length c.loop-dealt.passes.items = omega (arith, c.len.ensures, c.loop-dealt.passes.ok.0) in
-    let to : c.len-end.result ≡ length c.args.passes.now.items = omega (arith, c.len-end.ensures, c.args.passes.now.ok.0) in
     record {
       left = c.loop-dealt.invariant.left;
-      dealt = record {
-        less = omega (arith, less, c.loop-dealt-test.false, c.loop-dealt.auto.dealt-end);
-        from = from;
-        to = to;
-        jobs = group_at Are (length c.loop-dealt.passes.items) c.len.result (length c.args.passes.now.items) c.len-end.result c.into_vec.result.items (sym from) (sym to)
-            (subst (IsGroup Are (length c.loop-dealt.passes.items) (length c.args.passes.now.items)) (sym c.into_vec.ensures) c.loop-dealt.invariant.group);
-      };
+      less = omega (arith, less, c.loop-dealt-test.false, c.loop-dealt.auto.dealt-end);
+      dealt = subst (IsGroup Are (length c.loop-dealt.passes.items) (length c.args.passes.now.items)) (sym c.into_vec.ensures) c.loop-dealt.invariant.group;
     }

@@ -1,6 +1,6 @@
 -- One more actor has played its program.
 use Rattle.std.proofs.lemmas.Result.{on_ok_weaker}
-use Rattle.co_run.proofs.groups.Joins.{over_added}
+use Rattle.co_run.proofs.groups.Seats.{over_added}
 use Rattle.co_run.proofs.runs.add.Goals as goal
 
 pub returns-clause-over : goal.returns-clause-over

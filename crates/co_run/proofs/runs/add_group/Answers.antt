@@ -1,8 +1,9 @@
 -- One more actor is over, and the rest of the group is of those behind it.
 use Rattle.std.proofs.Common.{ℕ, ◌+◌, ◌∙◌, ap, arith, length, subst, sym}
+use Rattle.std.proofs.lemmas.Result.{IfOk-at_ok}
 use Rattle.co_run.specs.Jobs.{HavePlayed, IsGroup}
 use Rattle.co_run.specs.Over.{IsActorOver}
-use Rattle.co_run.proofs.groups.Joins.{played_first, played_less}
+use Rattle.co_run.proofs.groups.Seats.{played_first, played_less}
 use Rattle.co_run.proofs.runs.add_group.Goals as goal
 
 pub loop-next-init : goal.loop-next-init
@@ -12,16 +13,17 @@ loop-next-init g c =
     record {
       over = c.requires.over;
       count = same;
-      group = subst (λ (n : ℕ). IsGroup have n c.args.end c.into_vec-group.result.items) same
-          (subst (IsGroup have (length c.args.all.books) c.args.end) (sym c.into_vec-group.ensures) c.requires.group);
+      group = subst (λ (n : ℕ). IsGroup have n c.args.end c.args.group.items) same c.requires.group;
     }
 
 pub add-requires-clause-one : goal.add-requires-clause-one
 add-requires-clause-one g c =
-    let have = HavePlayed g.B.Book.notes c.args.script.now g.N.Name.name in
+    let s = c.args.script.now in
+    let have = HavePlayed g.B.Book.notes s g.N.Name.name in
     let group = subst (IsGroup have c.loop-next.next c.args.end) c.take_last.ensures c.loop-next.invariant.group in
-    subst (λ (a : ℕ). IsActorOver c.args.script.now g.N.Name.name a c.take_last.result.passes (g.B.Book.notes c.take_last.result.book)) (sym c.loop-next.invariant.count)
-    (played_first c.args.script.now g.N.Name.name g.B.Book.notes c.take_last.new.all.items c.take_last.result c.loop-next.next c.args.end group)
+    subst (λ (a : ℕ). IsActorOver s g.N.Name.name a c.in_ok-one.one.passes (g.B.Book.notes c.in_ok-one.one.book)) (sym c.loop-next.invariant.count)
+    (IfOk-at_ok (λ kit. IsActorOver s g.N.Name.name c.loop-next.next kit.passes (g.B.Book.notes kit.book)) c.in_ok-one.was
+    (played_first s g.N.Name.name g.B.Book.notes c.take_last.new.all.items c.take_last.result c.loop-next.next c.args.end group))
 
 pub loop-next-preserved : goal.loop-next-preserved
 loop-next-preserved g c =

@@ -1,13 +1,12 @@
 -- The actors rely on what the run relies on.
-use Rattle.std.proofs.Common.{◌≡◌, ◌∙◌}
-use Rattle.std.proofs.lemmas.Result.{IfOk-at_ok}
+use Rattle.std.proofs.Common.{◌∙◌}
 use Rattle.co_run.proofs.runs.play_books.Goals as goal
 
 pub invariant_of-shared : goal.invariant_of-shared
 invariant_of-shared g c = record {
   valid = c.requires.may.script;
   lockable = c.requires.may.locks;
-  kinds = IfOk-at_ok (λ locks. locks ≡ c.as_slice.result.now) c.in_ok-locks.ensures.one c.new-locks.ensures ∙ c.as_slice.ensures;
+  kinds = c.in_ok-locks.ensures ∙ c.as_slice.ensures;
   params = c.requires.may.params;
   named = c.requires.may.named;
   short = c.longest_of.ensures.short;
