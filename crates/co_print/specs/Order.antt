@@ -94,3 +94,10 @@ pub record ShowsHistories (s : Script) (lists : List (List Note)) (first end : �
 -- the part has the notes of its places in order
 abbrev pub IsInOrder : Script → List (List Note) → Part → Type 0
 IsInOrder s lists part = ShowsHistories s lists part.first part.end part.order
+
+-- the places from `first` up to `behind` stand in the part, which is in order
+pub record StandIn (s : Script) (lists : List (List Note)) (first behind : ℕ) (part : Part) : Type 0 where
+  pub begin : part.first ≤ first
+  pub end : behind ≤ part.end
+  pub places : part.end ≤ place_count s
+  pub order : IsInOrder s lists part

@@ -1,20 +1,20 @@
 //! The text of a report, of which threads print parts beside each other.
-ghost use Rattle.std.specs.Prelude.{◌≡◌, ◌≤◌, IfOk};
+ghost use Rattle.std.specs.Prelude.{◌≡◌, ◌≤◌, IfOk, IfSome};
 ghost use Rattle.std.specs.List.{concat};
 ghost use Rattle.co_text.specs.Lines.{text};
 ghost use Rattle.co_object.specs.Lists.{IsWellFormed};
 ghost use Rattle.co_program.specs.Places.{AllHavePlaces};
 ghost use Rattle.co_print.specs.Reports.{lines_between, head_text, report_of};
-ghost use Rattle.co_print.specs.Order.{place_count, IsInOrder};
+ghost use Rattle.co_print.specs.Order.{place_count, StandIn};
 
 use crate::counting::count_by_threads;
 use crate::frame::{head_piece, in_frame};
-use crate::joining::append;
 use crate::order::Part;
 use crate::report::Printing;
 use co_packed::PackedNote;
 use co_program::Script;
 use co_sbt::{NoMemory, Seq};
+use co_script::append;
 use co_text::Page;
 use std::alloc::Global;
 use std::thread::{Threads, join};
@@ -39,11 +39,8 @@ fn print_piece(
     first: usize,
     end: usize,
 ) -> Result<Seq<Seq<u8>>, NoMemory>
-    requires begin { part.now.first ≤ first }
     requires order { first ≤ end }
-    requires end { end ≤ part.now.end }
-    requires places { part.now.end ≤ place_count printing.now.script.now }
-    requires part { IsInOrder printing.now.script.now printing.now.lists.now part.now }
+    requires part { StandIn printing.now.script.now printing.now.lists.now first end part.now }
     ensures { IfOk result (λ pieces. concat pieces ≡ text (lines_between printing.now.script.now printing.now.lists.now first end)) }
 {
     let mut page = Page::new(alloc);
@@ -53,46 +50,8 @@ fn print_piece(
     Ok(pieces)
 }
 
-/// Some places of a part that is in order, those from `first` up to `end`, in pieces. They are halved this often, with about
-/// as many notes in each half, and the halves are printed beside each other, the first one in a thread of its own where one
-/// can be had.
-#[cycle(halves)]
-fn print_halves<R: Threads + Sync>(
-    rt: &R,
-    alloc: Global,
-    printing: &Printing<'_>,
-    part: &Part,
-    first: usize,
-    end: usize,
-    halvings: u32,
-) -> Result<Seq<Seq<u8>>, NoMemory>
-    requires begin { part.now.first ≤ first }
-    requires order { first ≤ end }
-    requires end { end ≤ part.now.end }
-    requires places { part.now.end ≤ place_count printing.now.script.now }
-    requires part { IsInOrder printing.now.script.now printing.now.lists.now part.now }
-    ensures { IfOk result (λ pieces. concat pieces ≡ text (lines_between printing.now.script.now printing.now.lists.now first end)) }
-{
-    if halvings == 0 || printing.note_count(first, end) < FEW_NOTES {
-        return print_piece(alloc, printing, part, first, end);
-    }
-    let middle = printing.middle(first, end);
-    let left = halvings - 1;
-    let front = || -> Result<Seq<Seq<u8>>, NoMemory>
-        requires { (part.now.first ≤ first) × (first ≤ middle) × (middle ≤ part.now.end) × (part.now.end ≤ place_count printing.now.script.now) × IsInOrder printing.now.script.now printing.now.lists.now part.now }
-        ensures { IfOk result (λ pieces. concat pieces ≡ text (lines_between printing.entry.now.script.now printing.entry.now.lists.now first middle)) }
-    { print_halves(rt, alloc, printing, part, first, middle, left) };
-    let back = || -> Result<Seq<Seq<u8>>, NoMemory>
-        requires { (part.now.first ≤ middle) × (middle ≤ end) × (end ≤ part.now.end) × (part.now.end ≤ place_count printing.now.script.now) × IsInOrder printing.now.script.now printing.now.lists.now part.now }
-        ensures { IfOk result (λ pieces. concat pieces ≡ text (lines_between printing.entry.now.script.now printing.entry.now.lists.now middle end)) }
-    { print_halves(rt, alloc, printing, part, middle, end, left) };
-    let (before, behind) = join(rt, front, back);
-    let mut pieces = before?;
-    append(&mut pieces, behind?)?;
-    Ok(pieces)
-}
-
 /// The places from `first` up to `end`, whose notes are put into order first, in pieces.
+#[cycle(halves)]
 fn print_part<R: Threads + Sync>(
     rt: &R,
     alloc: Global,
@@ -105,38 +64,44 @@ fn print_part<R: Threads + Sync>(
     ensures { IfOk result (λ pieces. concat pieces ≡ text (lines_between printing.now.script.now printing.now.lists.now first end)) }
 {
     let part = printing.part(alloc, first, end)?;
-    print_halves(rt, alloc, printing, &part, first, end, PRINTED_HALVINGS)
+    print_halves(rt, alloc, printing, Some(&part), first, end, PRINTED_HALVINGS)
 }
 
-/// The places from `first` up to `end` in pieces. They are halved this often, and the halves are put into order and printed
-/// beside each other, the first one in a thread of its own where one can be had.
-#[cycle(parts)]
-fn print_parts<R: Threads + Sync>(
+/// The places from `first` up to `end` in pieces, some of this part, which is in order, or without one some of all places.
+/// They are halved this often, with about as many notes in each half, and the halves are printed beside each other, the
+/// first one in a thread of its own where one can be had. Without a part each piece of this is a part of its own.
+#[cycle(halves)]
+fn print_halves<R: Threads + Sync>(
     rt: &R,
     alloc: Global,
     printing: &Printing<'_>,
+    part: Option<&Part>,
     first: usize,
     end: usize,
     halvings: u32,
 ) -> Result<Seq<Seq<u8>>, NoMemory>
     requires order { first ≤ end }
     requires end { end ≤ place_count printing.now.script.now }
+    requires part { IfSome part (λ part. StandIn printing.now.script.now printing.now.lists.now first end part.now) }
     ensures { IfOk result (λ pieces. concat pieces ≡ text (lines_between printing.now.script.now printing.now.lists.now first end)) }
 {
     if halvings == 0 || printing.note_count(first, end) < FEW_NOTES {
-        return print_part(rt, alloc, printing, first, end);
+        return match part {
+            Some(part) => print_piece(alloc, printing, part, first, end),
+            None => print_part(rt, alloc, printing, first, end),
+        };
     }
     let middle = printing.middle(first, end);
     let left = halvings - 1;
-    let earlier = || -> Result<Seq<Seq<u8>>, NoMemory>
-        requires { (first ≤ middle) × (middle ≤ place_count printing.now.script.now) }
+    let front = || -> Result<Seq<Seq<u8>>, NoMemory>
+        requires { (first ≤ middle) × (middle ≤ place_count printing.now.script.now) × IfSome part (λ part. StandIn printing.now.script.now printing.now.lists.now first middle part.now) }
         ensures { IfOk result (λ pieces. concat pieces ≡ text (lines_between printing.entry.now.script.now printing.entry.now.lists.now first middle)) }
-    { print_parts(rt, alloc, printing, first, middle, left) };
-    let later = || -> Result<Seq<Seq<u8>>, NoMemory>
-        requires { (middle ≤ end) × (end ≤ place_count printing.now.script.now) }
+    { print_halves(rt, alloc, printing, part, first, middle, left) };
+    let back = || -> Result<Seq<Seq<u8>>, NoMemory>
+        requires { (middle ≤ end) × (end ≤ place_count printing.now.script.now) × IfSome part (λ part. StandIn printing.now.script.now printing.now.lists.now middle end part.now) }
         ensures { IfOk result (λ pieces. concat pieces ≡ text (lines_between printing.entry.now.script.now printing.entry.now.lists.now middle end)) }
-    { print_parts(rt, alloc, printing, middle, end, left) };
-    let (before, behind) = join(rt, earlier, later);
+    { print_halves(rt, alloc, printing, part, middle, end, left) };
+    let (before, behind) = join(rt, front, back);
     let mut pieces = before?;
     append(&mut pieces, behind?)?;
     Ok(pieces)
@@ -156,14 +121,8 @@ fn print_all_places<R: Threads + Sync>(
     let lists = lists.as_slice();
     let counted = count_by_threads(rt, alloc, script, lists)?;
     let printing = Printing::new(alloc, script, lists, counted)?;
-    print_parts(
-        rt,
-        alloc,
-        &printing,
-        0,
-        printing.place_count(),
-        ORDERED_HALVINGS,
-    )
+    let end = printing.place_count();
+    print_halves(rt, alloc, &printing, None, 0, end, ORDERED_HALVINGS)
 }
 
 /// The report of a script and the lists of its actors' notes, as `print_report` gives it, in pieces: joined they are the

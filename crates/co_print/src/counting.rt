@@ -3,11 +3,11 @@ ghost use Rattle.std.specs.Prelude.{◌≡◌, ◌<◌, ◌+◌, ◌++◌, ℕ, 
 ghost use Rattle.co_program.specs.Places.{AllHavePlaces};
 ghost use Rattle.co_print.specs.Order.{AreCounted};
 
-use crate::joining::append;
 use crate::order::{Counted, count_lists, sum};
 use co_packed::PackedNote;
 use co_program::Script;
 use co_sbt::{NoMemory, Seq};
+use co_script::append;
 use std::alloc::Global;
 use std::thread::{Threads, join};
 

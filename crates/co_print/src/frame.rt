@@ -9,12 +9,11 @@ ghost use Rattle.co_script.specs.Canonical.{canonical};
 ghost use Rattle.co_print.specs.Reports.{heading, head_text};
 ghost use Rattle.co_notes.specs.Parts.{joined};
 
-use crate::joining::append;
 use co_grammar::{actor_name, print_numbered};
 use co_object::Place;
 use co_program::Script;
 use co_sbt::{NoMemory, Seq};
-use co_script::print_lines;
+use co_script::{append, print_lines};
 use co_text::{Page, Token};
 use std::alloc::Global;
 

@@ -4,7 +4,6 @@
 mod by_threads;
 mod counting;
 mod frame;
-mod joining;
 pub mod laws;
 mod order;
 mod origin;
@@ -13,7 +12,6 @@ mod report;
 
 pub use by_threads::print_by_threads;
 pub use frame::{begin_heading, head_piece, in_frame, print_heading};
-pub use joining::append;
 pub use order::{Order, order_of, place_count};
 pub use origin::{Origin, note_from};
 pub use report::{place_of, print_report};

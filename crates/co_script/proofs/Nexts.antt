@@ -43,7 +43,7 @@ added d a = draft_with d d.script (states.Does a)
 line-is : (o e : Draft) (l : Line) (part : List ℕ) (first : Word) (others : List Word) → content l ≡ Ok part → words part ≡ first ∷ others → line_after o first others ≡ Ok e → line_read (Some o) l ≡ Ok (Some e)
 line-is o e l part first others reads splits said = rw (reads, splits, said) refl
 
-grows-added : (d : Draft) (l : Line) (part : List ℕ) (first : Word) (others : List Word) (a : Act) → content l ≡ Ok part → words part ≡ first ∷ others → SaysAct d first others a → Grows l d (added d a)
+pub grows-added : (d : Draft) (l : Line) (part : List ℕ) (first : Word) (others : List Word) (a : Act) → content l ≡ Ok part → words part ≡ first ∷ others → SaysAct d first others a → Grows l d (added d a)
 grows-added d l part first others a reads splits says = record {
   frame = record { version = refl; cpus = refl; locks = refl; timers = refl; funcs = refl };
   kind = refl;

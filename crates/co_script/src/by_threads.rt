@@ -1,5 +1,5 @@
 //! The script that a text stands for, of which threads read the long sections beside each other.
-ghost use Rattle.std.specs.Prelude.{◌≡◌, ◌≤◌, ◌++◌, length, IfOk, OnOk};
+ghost use Rattle.std.specs.Prelude.{◌≡◌, ◌≤◌, length, IfOk, OnOk};
 ghost use Rattle.std.specs.List.{All};
 ghost use Rattle.co_text.specs.Fallible.{GivesOrNoMemory};
 ghost use Rattle.co_text.specs.declared.ScriptFault.TheVariants as fault;
@@ -8,6 +8,7 @@ ghost use Rattle.co_script.specs.Beside.{IsSection, IsSpot, left_read};
 ghost use Rattle.co_script.specs.Reading.{lines_script, script_of};
 
 use crate::draft::Draft;
+use crate::joining::joined;
 use crate::reader::{finished, read_to};
 use crate::sections::{Section, read_section};
 use crate::spot::Spot;
@@ -17,10 +18,10 @@ use co_program::Script;
 use co_sbt::{NoMemory, Seq};
 use co_text::{Cause, LineFault, ScriptFault};
 use std::alloc::Global;
-use std::thread::{Threads, join};
+use std::thread::{Threads, map_chunks};
 
-/// How often the sections are halved: three times, for 8 parts.
-const HALVINGS: u32 = 3;
+/// In how many parts the sections are read, each part in a thread of its own where one can be had.
+const PARTS: usize = 8;
 
 /// Want of memory, as a fault of the text.
 fn no_memory(_fault: NoMemory) -> ScriptFault
@@ -62,70 +63,26 @@ fn read_in_turn(
     Ok(sections)
 }
 
-/// Appends sections. `NoMemory` where there is no room for them.
-fn append(sections: &mut Seq<Section>, more: Seq<Section>) -> Result<(), NoMemory>
-    ensures { OnOk result (sections.new ≡ sections.old ++ more) }
-{
-    for section in more.into_vec() {
-        sections.push(section)?;
-    }
-    Ok(())
-}
-
-/// The sections that begin in both halves, each as [`read_halves`] reads them.
-// Apart: what the closures ask is told by this function alone.
-#[cycle(halves)]
-fn halves_beside<R: Threads + Sync>(
-    rt: &R,
-    alloc: Global,
-    text: &[u8],
-    frame: &Draft,
-    first: &[Start],
-    second: &[Start],
-    halvings: u32,
-) -> (
-    Result<Seq<Section>, NoMemory>,
-    Result<Seq<Section>, NoMemory>,
-)
-    requires { length text.now ≤ 67108864 }
-    ensures first { IfOk result.0 (All (IsSection text.now frame.now)) }
-    ensures second { IfOk result.1 (All (IsSection text.now frame.now)) }
-{
-    join(
-        rt,
-        || -> Result<Seq<Section>, NoMemory>
-            requires { length text.now ≤ 67108864 }
-            ensures { IfOk result (All (IsSection text.entry.now frame.entry.now)) }
-        { read_halves(rt, alloc, text, frame, first, halvings) },
-        || -> Result<Seq<Section>, NoMemory>
-            requires { length text.now ≤ 67108864 }
-            ensures { IfOk result (All (IsSection text.entry.now frame.entry.now)) }
-        { read_halves(rt, alloc, text, frame, second, halvings) },
-    )
-}
-
-/// The sections that begin here. They are halved this often, and the halves are read beside each other, the first one in
-/// a thread of its own where one can be had.
-#[cycle(halves)]
-fn read_halves<R: Threads + Sync>(
+/// The sections that begin here. Threads read some of them each, beside each other.
+fn read_parts<R: Threads + Sync>(
     rt: &R,
     alloc: Global,
     text: &[u8],
     frame: &Draft,
     starts: &[Start],
-    halvings: u32,
 ) -> Result<Seq<Section>, NoMemory>
     requires { length text.now ≤ 67108864 }
     ensures { IfOk result (All (IsSection text.now frame.now)) }
 {
-    if halvings == 0 || starts.len() < 2 {
-        return read_in_turn(alloc, text, frame, starts);
+    let read = |_: usize, part: &[Start]| -> Result<Seq<Section>, NoMemory>
+        requires { length text.now ≤ 67108864 }
+        ensures { IfOk result (All (IsSection text.entry.now frame.entry.now)) }
+    { read_in_turn(alloc, text, frame, part) };
+    let size = starts.len().div_ceil(PARTS).max(1);
+    match map_chunks(rt, alloc, starts, size, &read) {
+        Ok(parts) => joined(alloc, parts),
+        Err(_) => Err(NoMemory {}),
     }
-    let (first, second) = starts.split_at(starts.len() / 2);
-    let (before, behind) = halves_beside(rt, alloc, text, frame, first, second, halvings - 1);
-    let mut sections = before?;
-    append(&mut sections, behind?)?;
-    Ok(sections)
 }
 
 /// The place behind a section that was read by itself, whose acts go into the draft; this place where they may not.
@@ -201,7 +158,7 @@ fn read_against<R: Threads + Sync>(
     requires from { IsSpot text.now from }
     ensures { GivesOrNoMemory (λ _. draft.new) result (left_read text.now draft.old from) }
 {
-    match read_halves(rt, alloc, text, frame, starts, HALVINGS) {
+    match read_parts(rt, alloc, text, frame, starts) {
         Ok(sections) => read_around(alloc, text, draft, frame, from, sections),
         Err(fault) => Err(no_memory(fault)),
     }

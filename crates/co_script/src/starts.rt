@@ -1,21 +1,22 @@
 //! Where the long sections of a text begin.
-ghost use Rattle.std.specs.Prelude.{◌≤◌, length};
+ghost use Rattle.std.specs.Prelude.{◌+◌, ◌≤◌, length};
 
+use crate::joining::joined;
 use crate::spot::line_at;
 use co_grammar::{Kind, kind_of};
 use co_sbt::{NoMemory, Seq};
 use co_text::next_word;
 use std::alloc::Global;
-use std::thread::{Threads, join};
+use std::thread::{Threads, map_chunks};
 
 /// How many bytes a section has at least that is read by itself.
 const LONG: usize = 65_536;
 
-/// How often a text is halved: three times, for 8 parts.
-const HALVINGS: u32 = 3;
+/// In how many parts a text is looked at, each part in a thread of its own where one can be had.
+const PARTS: usize = 8;
 
-/// How many bytes a part has at least that is halved.
-const PART: usize = 262_144;
+/// How many bytes a part has at least, the last one aside.
+const LEAST_PART: usize = 131_072;
 
 /// Where the acts of a section begin, as far as a look at the text tells.
 #[derive(Clone, Copy)]
@@ -87,57 +88,20 @@ fn openings_in(alloc: Global, text: &[u8], from: usize, to: usize) -> Result<Seq
     Ok(openings)
 }
 
-/// The openings of the two halves of a part, each as [`openings_beside`] finds them.
-// Apart: what the closures ask is told by this function alone.
-#[cycle(parts)]
-fn halves_beside<R: Threads + Sync>(
+/// The openings of a text, in order. Threads look at the parts of a long one beside each other.
+fn openings_of<R: Threads + Sync>(
     rt: &R,
     alloc: Global,
     text: &[u8],
-    from: usize,
-    middle: usize,
-    to: usize,
-    halvings: u32,
-) -> (
-    Result<Seq<Opening>, NoMemory>,
-    Result<Seq<Opening>, NoMemory>,
-)
-    requires first { from ≤ middle }
-    requires second { middle ≤ to }
-    requires within { to ≤ length text.now }
-{
-    join(
-        rt,
-        || -> Result<Seq<Opening>, NoMemory>
-            requires { (from ≤ middle) × (middle ≤ length text.now) }
-        { openings_beside(rt, alloc, text, from, middle, halvings) },
-        || -> Result<Seq<Opening>, NoMemory>
-            requires { (middle ≤ to) × (to ≤ length text.now) }
-        { openings_beside(rt, alloc, text, middle, to, halvings) },
-    )
-}
-
-/// The openings that begin in a part of a text, in order. Threads look at the halves of a long one beside each other.
-#[cycle(parts)]
-fn openings_beside<R: Threads + Sync>(
-    rt: &R,
-    alloc: Global,
-    text: &[u8],
-    from: usize,
-    to: usize,
-    halvings: u32,
-) -> Result<Seq<Opening>, NoMemory>
-    requires order { from ≤ to }
-    requires within { to ≤ length text.now }
-{
-    if halvings == 0 || to - from < PART {
-        return openings_in(alloc, text, from, to);
+) -> Result<Seq<Opening>, NoMemory> {
+    let look = |from: usize, part: &[u8]| -> Result<Seq<Opening>, NoMemory>
+        requires { from + length part.now ≤ length text.now }
+    { openings_in(alloc, text, from, from + part.len()) };
+    let size = text.len().div_ceil(PARTS).max(LEAST_PART);
+    match map_chunks(rt, alloc, text, size, &look) {
+        Ok(parts) => joined(alloc, parts),
+        Err(_) => Err(NoMemory {}),
     }
-    let middle = from + (to - from) / 2;
-    let (before, behind) = halves_beside(rt, alloc, text, from, middle, to, halvings - 1);
-    let mut openings = before?;
-    openings.extend_from_slice(behind?.as_slice())?;
-    Ok(openings)
 }
 
 /// Notes where a section begins that ends before this byte, if it is long.
@@ -169,6 +133,6 @@ pub(crate) fn starts_of<R: Threads + Sync>(
     alloc: Global,
     text: &[u8],
 ) -> Result<Seq<Start>, NoMemory> {
-    let openings = openings_beside(rt, alloc, text, 0, text.len(), HALVINGS)?;
+    let openings = openings_of(rt, alloc, text)?;
     long_of(alloc, openings.as_slice(), text.len())
 }

@@ -7,8 +7,8 @@ use Rattle.co_print.specs.Reports.{lines_between}
 use Rattle.co_print.proofs.PartsWritten.{halves-written}
 use Rattle.co_print.proofs.by_threads.+halves.Goals as goal
 
-pub returns : goal.returns
-returns g t c =
+pub print_halves-returns : goal.print_halves-returns
+print_halves-returns g t c =
     halves-written c.args.printing.now.script.now c.args.printing.now.lists.now c.args.first c.middle-middle.result c.args.end c.in_ok-pieces.pieces c.in_ok-behind.field-0 _ c.middle-middle.ensures.first c.middle-middle.ensures.end
     (IfOk-at_ok (λ q. concat q ≡ text (lines_between c.args.printing.now.script.now c.args.printing.now.lists.now _ _)) c.in_ok-pieces.was c.join-before.ensures.first)
     (IfOk-at_ok (λ q. concat q ≡ text (lines_between c.args.printing.now.script.now c.args.printing.now.lists.now _ _)) c.in_ok-behind.was c.join-before.ensures.second)

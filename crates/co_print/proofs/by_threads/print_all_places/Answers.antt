@@ -9,6 +9,6 @@ use Rattle.co_print.proofs.by_threads.print_all_places.Goals as goal
 
 pub returns : goal.returns
 returns g c =
-    IfOk-weaker c.print_parts.result (λ q. concat q ≡ text (lines_between c.in_ok-printing.printing.script.now c.in_ok-printing.printing.lists.now 0 c.place_count.result)) _
-    (λ q is. all-written _ c.args.script.now _ c.args.lists.now _ q c.in_ok-printing.ensures.script (c.in_ok-printing.ensures.lists ∙ c.as_slice-lists.ensures) c.place_count.ensures is)
-    c.print_parts.ensures
+    IfOk-weaker c.print_halves.result (λ q. concat q ≡ text (lines_between c.in_ok-printing.printing.script.now c.in_ok-printing.printing.lists.now 0 c.place_count-end.result)) _
+    (λ q is. all-written _ c.args.script.now _ c.args.lists.now _ q c.in_ok-printing.ensures.script (c.in_ok-printing.ensures.lists ∙ c.as_slice-lists.ensures) c.place_count-end.ensures is)
+    c.print_halves.ensures

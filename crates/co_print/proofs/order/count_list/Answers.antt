@@ -26,3 +26,8 @@ loop-note-preserved c =
       spots = made_more (spot_of s) notes k n c.in_ok-spot.spot _ _ c.loop-note-test.true c.note-item.is c.in_ok-spot.ensures c.loop-note.invariant.spots c.push.ensures.items;
       room = omega (arith, c.push.ensures.spare, c.loop-note.invariant.room);
     }
+
+pub replace-requires : goal.replace-requires
+replace-requires c =
+    let below = index_below c.args.script.now c.note-item.result.place (note_exists c.args.script.now c.args.notes.now _ c.note-item.result c.requires.exist c.loop-note-test.true c.note-item.is) in
+    omega (arith, below, ap (λ spot. spot.place) c.in_ok-spot.ensures, c.loop-note.invariant.places)

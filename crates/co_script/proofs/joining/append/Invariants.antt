@@ -1,6 +1,6 @@
 use Rattle.std.proofs.Common.{◌≡◌, ◌++◌, length}
 use Rattle.std.specs.Vec.Iter.{into_iter_items, into_iter_len}
-use Rattle.co_print.proofs.joining.append.Given as goal
+use Rattle.co_script.proofs.joining.append.Given as goal
 
 -- the first items are appended, and the others are left
 abbrev pub invariant-loop-item : goal.invariant-loop-item

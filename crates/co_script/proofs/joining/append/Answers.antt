@@ -1,7 +1,7 @@
 -- One item more is appended.
 use Rattle.std.proofs.Common.{[], ◌∷◌, ◌++◌, length, ap, sym, ◌∙◌, arith, append_assoc}
 use Rattle.std.specs.Vec.Iter.{into_iter_items}
-use Rattle.co_print.proofs.joining.append.Goals as goal
+use Rattle.co_script.proofs.joining.append.Goals as goal
 
 pub loop-item-preserved : goal.loop-item-preserved
 loop-item-preserved g c =
