@@ -64,7 +64,15 @@ fn print_part<R: Threads + Sync>(
     ensures { IfOk result (λ pieces. concat pieces ≡ text (lines_between printing.now.script.now printing.now.lists.now first end)) }
 {
     let part = printing.part(alloc, first, end)?;
-    print_halves(rt, alloc, printing, Some(&part), first, end, PRINTED_HALVINGS)
+    print_halves(
+        rt,
+        alloc,
+        printing,
+        Some(&part),
+        first,
+        end,
+        PRINTED_HALVINGS,
+    )
 }
 
 /// The places from `first` up to `end` in pieces, some of this part, which is in order, or without one some of all places.

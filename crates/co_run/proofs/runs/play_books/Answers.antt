@@ -15,3 +15,6 @@ invariant_of-shared g c = record {
 
 pub returns-clause-over : goal.returns-clause-over
 returns-clause-over g c = c.add_crew.ensures.over
+
+pub add_crew-requires-clause-crew : goal.add_crew-requires-clause-crew
+add_crew-requires-clause-crew g c = c.in_ok-crew-2.ensures
